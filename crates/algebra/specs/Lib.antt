@@ -1,0 +1,14 @@
+pub mod Ring
+pub mod Series
+pub mod Exact
+pub mod Residues
+pub mod Ternary
+pub mod Polynomials
+pub mod Scheme
+pub mod Sets
+pub mod Stands
+pub mod RingTheorems
+pub mod Theorems
+pub mod SchemeTheorems
+pub mod Example
+pub mod Radix

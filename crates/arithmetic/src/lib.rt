@@ -1,0 +1,4 @@
+// Arithmetic: the coefficients of polynomials.
+mod digit;
+
+pub use digit::Digit;

@@ -1,0 +1,5 @@
+mod CoinDigits
+mod DrawnSigns
+mod PairRecords
+mod TernaryDigits
+mod Verdicts

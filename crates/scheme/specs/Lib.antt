@@ -1,0 +1,9 @@
+pub mod Refusals
+pub mod Sets
+pub mod Coins
+pub mod TernaryParts
+pub mod Signs
+pub mod Draws
+pub mod Jobs
+pub mod Pairs
+pub mod Examples

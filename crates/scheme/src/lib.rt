@@ -1,0 +1,29 @@
+// The scheme: parameter sets, coins and what is drawn from them, and records.
+ghost use Rattle.scheme.specs.Examples.{Coin-halves, Pair-of-coins, Settled-signs};
+
+mod coins;
+mod draws;
+mod job;
+mod pair;
+mod refusal;
+mod set;
+mod signs;
+mod ternary;
+
+pub use coins::coin_digits;
+pub use draws::draw_key;
+pub use draws::draw_pair;
+pub use job::Job;
+pub use refusal::Refusal;
+pub use set::ParameterSet;
+pub use ternary::read_ternary_part;
+pub use ternary::write_ternary_part;
+
+// The worked values follow from the definitions that the contracts cite.
+pub fn examples_hold() -> u8
+    ensures coin_halves { λ _. ⌜ Coin-halves ⌝ }
+    ensures settled_signs { λ _. ⌜ Settled-signs ⌝ }
+    ensures pair_of_coins { λ _. ⌜ Pair-of-coins ⌝ }
+{
+    0
+}

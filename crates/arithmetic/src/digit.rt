@@ -1,4 +1,5 @@
 // Digits modulo 3.
+ghost use mathlib.Core.Path.{_≡_};
 ghost use Prim.Native.Nat.{_<_};
 
 mod values;
@@ -17,4 +18,11 @@ impl Digit {
     pub const ONE: Digit = Digit { code: 1 };
 
     pub const MINUS_ONE: Digit = Digit { code: 2 };
+
+    // How the digit is written in a ternary part.
+    pub fn code(self) -> u8
+        ensures written_code { λ r. ⌜ r ≡ self .code ⌝ }
+    {
+        self.code
+    }
 }

@@ -2,7 +2,7 @@
 use scheme::Refusal;
 
 // What a refusal means and what to do.
-pub fn meaning(refusal: Refusal) -> &'static str {
+pub(crate) fn meaning(refusal: Refusal) -> &'static str {
     match refusal {
         Refusal::NoSuchSet => "there is no such parameter set; name set 1, 2 or 3",
         Refusal::InputLength =>

@@ -15,7 +15,7 @@ use std::alloc::Global;
 
 const SET: u8 = 1;
 
-pub fn run(rt: &LibcRuntime) -> Result<(), Trouble> {
+pub(crate) fn run(rt: &LibcRuntime) -> Result<(), Trouble> {
     println!(
         rt,
         "keycards demo, parameter set 1: polynomials of 5 coefficients, the last of them 0."

@@ -18,7 +18,7 @@ pub struct CoinFile {
 }
 
 // Opens a coin file and touches nothing of it.
-pub fn open_coins(rt: &LibcRuntime, path: &str) -> Result<CoinFile, Trouble> {
+pub(crate) fn open_coins(rt: &LibcRuntime, path: &str) -> Result<CoinFile, Trouble> {
     let heap = rt.alloc();
     let reader = match File::open(rt, path) {
         Ok(file) => file,
@@ -54,7 +54,7 @@ fn why_not_read(kind: ErrorKind) -> &'static str {
 }
 
 impl CoinFile {
-    pub fn read(&mut self, rt: &LibcRuntime, path: &str) -> Result<Vec<u8>, Trouble> {
+    pub(crate) fn read(&mut self, rt: &LibcRuntime, path: &str) -> Result<Vec<u8>, Trouble> {
         let mut coins = Vec::new(rt.alloc());
         match self.reader.read_to_end(&mut coins) {
             Ok(_) => Ok(coins),
@@ -67,7 +67,12 @@ impl CoinFile {
     }
 
     // Overwrites the file from its start.
-    pub fn overwrite(&mut self, rt: &LibcRuntime, path: &str, zeros: &[u8]) -> Result<(), Trouble> {
+    pub(crate) fn overwrite(
+        &mut self,
+        rt: &LibcRuntime,
+        path: &str,
+        zeros: &[u8],
+    ) -> Result<(), Trouble> {
         match erase(&mut self.eraser, zeros) {
             Ok(()) => Ok(()),
             Err(_) => Err(of_file(
@@ -85,7 +90,7 @@ fn erase(file: &mut File, zeros: &[u8]) -> io::Result<()> {
 }
 
 // Makes an empty file where none is.
-pub fn reserve(rt: &LibcRuntime, path: &str) -> Result<File, Trouble> {
+pub(crate) fn reserve(rt: &LibcRuntime, path: &str) -> Result<File, Trouble> {
     let heap = rt.alloc();
     match File::create_new(rt, path) {
         Ok(file) => Ok(file),
@@ -112,7 +117,12 @@ pub fn reserve(rt: &LibcRuntime, path: &str) -> Result<File, Trouble> {
 }
 
 // Fills a reserved file, or takes it away again.
-pub fn fill(rt: &LibcRuntime, mut file: File, path: &str, bytes: &[u8]) -> Result<(), Trouble> {
+pub(crate) fn fill(
+    rt: &LibcRuntime,
+    mut file: File,
+    path: &str,
+    bytes: &[u8],
+) -> Result<(), Trouble> {
     match erase(&mut file, bytes) {
         Ok(()) => Ok(()),
         Err(_) => {
@@ -127,6 +137,6 @@ pub fn fill(rt: &LibcRuntime, mut file: File, path: &str, bytes: &[u8]) -> Resul
 }
 
 // Takes a reserved file away again.
-pub fn withdraw(rt: &LibcRuntime, path: &str) {
+pub(crate) fn withdraw(rt: &LibcRuntime, path: &str) {
     let _ = fs::remove_file(rt, path);
 }

@@ -9,7 +9,7 @@ use crate::trouble::of_file;
 use scheme::Job;
 use scheme::ParameterSet;
 
-pub fn run(rt: &LibcRuntime, set: &str, coins: &str, pair: &str) -> Result<(), Trouble> {
+pub(crate) fn run(rt: &LibcRuntime, set: &str, coins: &str, pair: &str) -> Result<(), Trouble> {
     let Ok(number) = set.parse::<u32>() else {
         return Err(of_file(rt.alloc(), set, "is not a number; sets are 1, 2 and 3"));
     };

@@ -69,7 +69,7 @@ pub impl<T: Drop> From<Refused<T>> for Trouble as TroubleFromRefused {
     }
 }
 
-pub fn unknown(heap: Global, word: &str) -> Result<(), Trouble> {
+pub(crate) fn unknown(heap: Global, word: &str) -> Result<(), Trouble> {
     let text = format!(
         heap,
         "there is no command '{word}'; 'keycards help' lists the commands"
@@ -78,7 +78,7 @@ pub fn unknown(heap: Global, word: &str) -> Result<(), Trouble> {
 }
 
 // A file and what is wrong with it.
-pub fn of_file(heap: Global, path: &str, what: &str) -> Trouble {
+pub(crate) fn of_file(heap: Global, path: &str, what: &str) -> Trouble {
     match format!(heap, "{path}: {what}") {
         Ok(text) => Trouble::Said(text),
         Err(_) => Trouble::NoMemory,

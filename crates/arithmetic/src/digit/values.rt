@@ -17,22 +17,13 @@ impl Digit {
     pub fn from_sign(value: i8) -> Self
         ensures sign_of_the_number { λ r. ⌜ r ≡ sign value ⌝ }
     {
-        Digit {
-            code: if value > 0 {
-                1
-            } else if value < 0 {
-                2
-            } else {
-                0
-            },
+        if value > 0 {
+            return Digit::ONE;
         }
-    }
-
-    // How the digit is written in a ternary part.
-    pub fn code(self) -> u8
-        ensures written_code { λ r. ⌜ r ≡ self .code ⌝ }
-    {
-        self.code
+        if value < 0 {
+            return Digit::MINUS_ONE;
+        }
+        Digit::ZERO
     }
 
     // The digit as a number.

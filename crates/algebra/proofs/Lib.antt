@@ -29,3 +29,6 @@ pub mod Example
 pub mod Radix
 pub mod Regrouping
 pub mod Writes
+pub mod WordSums
+pub mod InPlace
+pub mod WordInverses

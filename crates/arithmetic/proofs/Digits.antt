@@ -3,6 +3,7 @@ use mathlib.Core.Path.{_≡_, refl, ap, _∙_, sym}
 use mathlib.Core.Bool.{true, false}
 use mathlib.Core.HLevel.{isProp→PathP}
 use Prim.Native.Nat.{ℕ, zero, suc, _-_, _%_, _<_, _≤_}
+use lib.Dec.{lit<}
 use native.Mathlib.Bridge.{le-prop}
 use native.Mathlib.Nat.{mod-eq-of-lt}
 use native.Mathlib.Omega.{arith}
@@ -11,8 +12,10 @@ use lib.IntN.{ℤ, pos, negsuc, negℤ, natAbs}
 use lib.Signed.{ltZ}
 use mir.Val.{toZ, ofZ}
 use mir.Syntax.{w8}
+use Rattle.algebra.specs.Residues.{residue, residues}
+use Rattle.algebra.specs.Stands.{signed}
 use Rattle.arithmetic.specs.declared.digit.Digit.{Digit}
-use Rattle.arithmetic.specs.Digits.{digit, signed, number, sign, negated}
+use Rattle.arithmetic.specs.Digits.{digit, number, sign, negated}
 
 pub same-digit : (d e : Digit) → d .code ≡ e .code → d ≡ e
 same-digit d e p = λ i. record { code = p i; small = isProp→PathP (λ k. p k < 3) (λ k. le-prop) (d .small) (e .small) i }
@@ -74,3 +77,9 @@ number-small d = by (d .code)
 -- minus a digit, as a number
 pub number-negated : (d : Digit) → number (negated d) ≡ negℤ (number d)
 number-negated d = minus-signed (d .code) (d .small)
+
+-- the ring's negation is minus the digit
+pub negation-is : (d r : Digit) → residue 3 (lit< tt) (r .code) ≡ residues 3 (lit< tt) .minus (residue 3 (lit< tt) (d .code)) → r ≡ negated d
+negation-is d r e =
+    let m : d .code % 3 ≡ d .code = mod-eq-of-lt (d .small) in
+    same-digit r (negated d) (sym (mod-eq-of-lt (r .small)) ∙ ap (λ u. u .0) e ∙ ap (λ x. (3 - x) % 3) m)

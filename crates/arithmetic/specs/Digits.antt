@@ -5,17 +5,12 @@ use native.Mathlib.Nat.{mod-lt}
 use lib.Dec.{lit<}
 use lib.IntN.{ℤ, pos, negsuc}
 use lib.ListN.{getD}
+use Rattle.algebra.specs.Stands.{signed}
 use Rattle.arithmetic.specs.declared.digit.Digit.{Digit}
 
 -- the digit of a number: its remainder modulo 3
 abbrev pub digit : ℕ → Digit
 digit n = record { code = n % 3; small = mod-lt n (lit< tt) }
-
--- what a code stands for
-abbrev pub signed : ℕ → ℤ
-signed zero = pos 0
-signed (suc zero) = pos 1
-signed (suc (suc n)) = negsuc 0
 
 -- a digit as a number
 abbrev pub number : Digit → ℤ

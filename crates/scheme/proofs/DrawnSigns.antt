@@ -23,7 +23,8 @@ use Rattle.algebra.specs.Ring.{integers, sum, sum-by}
 use Rattle.algebra.specs.Ternary.{Ternary, Ternary+, correlation}
 use Rattle.algebra.specs.Scheme.{flip}
 use Rattle.algebra.proofs.Flips.{flipped-is}
-use Rattle.arithmetic.specs.Digits.{digit, signed, number, negated, coefficients}
+use Rattle.arithmetic.specs.Digits.{digit, number, negated, coefficients}
+use Rattle.algebra.specs.Stands.{signed}
 use Rattle.arithmetic.specs.declared.digit.Digit.{Digit}
 use Rattle.arithmetic.proofs.Digits.{byte-number, number-small, number-negated}
 use Rattle.scheme.specs.Coins.{halves, coin-list, drawn}

@@ -7,6 +7,8 @@ ghost use Rattle.algebra.specs.Ternary.{correlation, Ternary, Ternary+};
 ghost use Rattle.arithmetic.specs.Digits.{coefficients, number};
 ghost use Rattle.scheme.specs.Signs.{flipped, settled};
 use arithmetic::Digit;
+use arithmetic::DigitRing;
+use arithmetic::Ring;
 
 fn neighbours(a: Digit, b: Digit) -> i32
     ensures value { λ r. ⌜ r ≡ number a *ℤ number b ⌝ }

@@ -92,7 +92,7 @@ fn unpack(bytes: &[u8], out: &mut [Digit])
             at += 1;
             held = 5;
         }
-        out[i] = Digit::from_code(byte % 3);
+        out[i] = Digit::from_number(u16::from(byte % 3));
         byte /= 3;
         held -= 1;
     }

@@ -1,16 +1,17 @@
 // What a digit is as a number, and how it is written.
 ghost use mathlib.Core.Path.{_≡_};
 ghost use Prim.Native.Nat.{ℕ};
-ghost use lib.IntN.{negℤ};
-ghost use Rattle.arithmetic.specs.Digits.{digit, negated, number, sign};
+ghost use Rattle.arithmetic.specs.Digits.{digit, number, sign};
 use crate::digit::Digit;
 
 impl Digit {
     // The digit of a number: its remainder modulo 3, where 2 counts as -1.
-    pub fn from_code(code: u8) -> Self
-        ensures digit_of_the_number { λ r. ⌜ r ≡ digit code ⌝ }
+    pub fn from_number(number: u16) -> Self
+        ensures digit_of_the_number { λ r. ⌜ r ≡ digit number ⌝ }
     {
-        Digit { code: code % 3 }
+        Digit {
+            code: (number % 3) as u8,
+        }
     }
 
     // The sign of a number: -1, 0 or 1.
@@ -26,6 +27,13 @@ impl Digit {
         Digit::ZERO
     }
 
+    // How the digit is written in a ternary part.
+    pub fn code(self) -> u8
+        ensures written_code { λ r. ⌜ r ≡ self .code ⌝ }
+    {
+        self.code
+    }
+
     // The digit as a number.
     pub fn signed(self) -> i8
         ensures signed_value { λ r. ⌜ r ≡ number self ⌝ }
@@ -34,16 +42,6 @@ impl Digit {
             0 => 0,
             1 => 1,
             _ => -1,
-        }
-    }
-
-    // Minus the digit.
-    pub fn negation(self) -> Self
-        ensures digit { λ r. ⌜ r ≡ negated self ⌝ }
-        ensures value { λ r. ⌜ number r ≡ negℤ (number self) ⌝ }
-    {
-        Digit {
-            code: if self.code == 0 { 0 } else { 3 - self.code },
         }
     }
 }

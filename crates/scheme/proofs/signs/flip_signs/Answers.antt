@@ -4,6 +4,7 @@ use lib.ListN.{length, getD}
 use Rattle.std.proofs.shelf.Counted.{fill-by-all}
 use Rattle.std.proofs.shelf.Lists.{getD-set-same, getD-set-other, getD-read}
 use Rattle.arithmetic.specs.Digits.{digit, negated}
+use Rattle.arithmetic.proofs.Digits.{negation-is}
 use Rattle.scheme.specs.Signs.{flipped-at}
 use Rattle.scheme.proofs.DrawnSigns.{flip-even, flip-odd, flip-more}
 use Rattle.scheme.proofs.signs.flip_signs.Needs as need
@@ -19,7 +20,7 @@ loop-i-again c =
       | then-i-eq0 w ↦
           let x = w .negation .result in
           let was : w .index-v-i .result ≡ getD (s .v) i (digit 0) = getD-read (s .v) i (w .index-v-i .result) (omega arith) (w .index-v-i .is) (digit 0) in
-          let same : x ≡ flipped-at entry i = w .negation .ensures .digit ∙ ap negated (was ∙ there) ∙ sym (flip-even entry i (w .if-i-eq0 .taken)) in
+          let same : x ≡ flipped-at entry i = negation-is (w .index-v-i .result) x (w .negation .ensures .negates) ∙ ap negated (was ∙ there) ∙ sym (flip-even entry i (w .if-i-eq0 .taken)) in
           flip-more (s .v) _ entry i (s .inv) (λ k ne. ap (λ xs. getD xs k (digit 0)) (w .v-is) ∙ getD-set-other (s .v) i k x (digit 0) ne)
           (ap (λ xs. getD xs i (digit 0)) (w .v-is) ∙ getD-set-same (s .v) i x (digit 0) (omega arith) ∙ same)
       | else-i-eq0 w ↦

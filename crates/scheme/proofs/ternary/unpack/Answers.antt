@@ -31,7 +31,7 @@ loop-i-again c =
           (omega arith, omega arith, omega (arith, small), omega arith, byte-read (s .i) (s .at) (getD bs (s .at) 0) bs (codes (s .out)) refl small h inv)
       | else-held-eq0 w ↦ simp (w .byte-is, w .held-is, w .at-is) (omega arith, omega arith, s .inv .0, omega arith, s .inv .3)
     ] in
-    let r = digit-write (j .byte) (j .held) (s .i) (j .at) (c .from-code .result) bs (s .out) (c .from-code .ensures .digit-of-the-number) (ready .0) (ready .2) (omega arith) (ready .4) in
+    let r = digit-write (j .byte) (j .held) (s .i) (j .at) (c .from-number .result) bs (s .out) (c .from-number .ensures .digit-of-the-number ∙ ap digit (c .from .ensures)) (ready .0) (ready .2) (omega arith) (ready .4) in
     (r .0, omega (arith, ready .1), omega (arith, ready .0, ready .3), r .1)
 
 pub returns : need.returns

@@ -1,0 +1,14 @@
+pub mod Algebra
+pub mod Product
+pub mod Monomials
+pub mod Lists
+pub mod Steps
+pub mod Dividing
+pub mod Sizes
+pub mod Degrees
+pub mod Bezout
+pub mod Method
+pub mod Cycles
+pub mod Ending
+pub mod Transfer
+pub mod Standing

@@ -1,0 +1,5 @@
+pub mod Series
+pub mod Division
+pub mod Inverses
+pub mod Method
+pub mod Cyclic

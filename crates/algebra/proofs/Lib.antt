@@ -32,3 +32,5 @@ pub mod Writes
 pub mod WordSums
 pub mod InPlace
 pub mod WordInverses
+pub mod WordBits
+pub mod LastCoefficient

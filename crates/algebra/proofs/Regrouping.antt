@@ -3,7 +3,7 @@ use mathlib.Core.Path.{_≡_, refl, sym, ap, _∙_, subst}
 use mathlib.Core.List.{List, [], _∷_, map}
 use mathlib.Core.Logic.{_⊎_, inl, inr}
 use Prim.Native.Nat.{ℕ, zero, suc, _+_, _-_, _*_, _/_, _%_, _^_, _<_, _≤_}
-use native.Mathlib.Nat.{mod-lt, mod-eq-of-lt, mod-mod, div-eq-of-lt, div-div-eq-div-mul, zero-div, zero-mod, add-mul-div-left, add-mul-mod-self-left, add-mul-mod-self-right, mul-comm, mul-assoc, pow-zero, pow-suc, pow-succ', one-le-pow, pow-le-pow-right, zero-add, lt-of-lt-of-le, mul-suc, div-add-mod, le-of-suc-le-suc, not-suc-le-zero}
+use native.Mathlib.Nat.{mod-one, mod-lt, mod-eq-of-lt, mod-mod, div-eq-of-lt, div-div-eq-div-mul, zero-div, zero-mod, add-mul-div-left, add-mul-mod-self-left, add-mul-mod-self-right, mul-comm, mul-assoc, pow-zero, pow-suc, pow-succ', one-le-pow, pow-le-pow-right, zero-add, lt-of-lt-of-le, mul-suc, div-add-mod, le-of-suc-le-suc, not-suc-le-zero}
 use native.Mathlib.Omega.{arith}
 use lib.ListN.{length, take, drop, getD, set}
 use lib.Pow.{pow-add}
@@ -112,3 +112,32 @@ unfolding digits
 digits-under b hb zero v k h = absurd (not-suc-le-zero h)
 digits-under b hb (suc n) v zero h = mod-lt v hb
 digits-under b hb (suc n) v (suc k) h = digits-under b hb n (v / b) k (le-of-suc-le-suc h)
+
+-- the first n digits are all that is left modulo b ^ n
+digits-low : (b : ℕ) → 0 < b → (n v : ℕ) → digits b n (v % b ^ n) ≡ digits b n v
+digits-low b hb n v =
+    ap (digits b n) (sym (numeral-digits b hb n v)) ∙ ap (λ m. digits b m (numeral b (digits b n v))) (sym (length-digits b n v))
+    ∙ digits-numeral b hb (digits b n v) ∙ under-map b (digits b n v) (digits-under b hb n v)
+
+-- numbers with the same digits below the place e
+low-alike : (b : ℕ) → 0 < b → (e u v : ℕ) → ((k : ℕ) → k < e → u / b ^ k % b ≡ v / b ^ k % b) → u % b ^ e ≡ v % b ^ e
+low-alike b hb zero u v same = ap (λ m. u % m) (pow-zero b) ∙ mod-one u ∙ sym (ap (λ m. v % m) (pow-zero b) ∙ mod-one v)
+low-alike b hb (suc e) u v same =
+    let first : (x : ℕ) → x / b ^ 0 % b ≡ x % b = λ x. ap (λ m. x / m % b) (pow-zero b) ∙ ap (λ m. m % b) (omega arith) in
+    let next : (x k : ℕ) → x / b ^ suc k % b ≡ x / b / b ^ k % b = λ x k. ap (λ m. x / m % b) (pow-succ' b k) ∙ ap (λ m. m % b) (sym (div-div-eq-div-mul x b (b ^ k))) in
+    let low : u % b ≡ v % b = sym (first u) ∙ same 0 (omega arith) ∙ first v in
+    let high : u / b % b ^ e ≡ v / b % b ^ e = low-alike b hb e (u / b) (v / b) (λ k l. sym (next u k) ∙ same (suc k) (omega arith) ∙ next v k) in
+    let parts : (x : ℕ) → x % b ^ suc e ≡ x % b + b * (x / b % b ^ e) = λ x. ap (λ m. x % m) (pow-succ' b e) ∙ mod-product x b (b ^ e) hb (one-le-pow e b hb) in
+    parts u ∙ ap (λ m. m + b * (u / b % b ^ e)) low ∙ ap (λ m. v % b + b * m) high ∙ sym (parts v)
+
+-- lists that have the same digits up to those that are read regroup alike
+pub read-alike :
+    (b q₁ q₂ : ℕ) → 0 < b → 0 < q₁ → 0 < q₂ → (n : ℕ) (xs ys : List ℕ) → ((k : ℕ) → k < q₂ * n → digit-at b q₁ xs k ≡ digit-at b q₁ ys k)
+    → digits (b ^ q₂) n (numeral (b ^ q₁) xs) ≡ digits (b ^ q₂) n (numeral (b ^ q₁) ys)
+read-alike b q₁ q₂ hb h₁ h₂ n xs ys same =
+    let u = numeral (b ^ q₁) xs in
+    let v = numeral (b ^ q₁) ys in
+    let hB : 0 < b ^ q₂ = one-le-pow q₂ b hb in
+    let low : u % b ^ (q₂ * n) ≡ v % b ^ (q₂ * n) = low-alike b hb (q₂ * n) u v (λ k l. digit-of-numeral b q₁ hb h₁ xs k ∙ same k l ∙ sym (digit-of-numeral b q₁ hb h₁ ys k)) in
+    let rest : u % (b ^ q₂) ^ n ≡ v % (b ^ q₂) ^ n = ap (λ m. u % m) (pow-mul b q₂ n) ∙ low ∙ ap (λ m. v % m) (sym (pow-mul b q₂ n)) in
+    sym (digits-low (b ^ q₂) hB n u) ∙ ap (digits (b ^ q₂) n) rest ∙ digits-low (b ^ q₂) hB n v

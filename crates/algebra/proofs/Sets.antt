@@ -47,6 +47,11 @@ big-enough n q h w = by (decLt 2 q)
         let v : 1 * 1 ≤ (n - 1) * (n - 1) = mul-le-mul o o in
         absurd (omega arith)
 
+-- a coefficient has a bit at least
+pub some-width : (n w : ℕ) → 2 ≤ n → 128 * ((n - 1) * (n - 1)) < 2 ^ w * 2 ^ w → 1 ≤ w
+some-width n zero h l = let big : 2 < 2 ^ 0 = big-enough n (2 ^ 0) h l in absurd (omega arith)
+some-width n (suc w) h l = omega arith
+
 halved : (w : ℕ) → 2 < 2 ^ w → 2 ^ w ≡ 2 * 2 ^ (w - 1)
 halved zero l = absurd (omega arith)
 halved (suc w) l = let e : suc w - 1 ≡ w = omega arith in pow-suc 2 w ∙ mul-comm (2 ^ w) 2 ∙ ap (λ (i : ℕ). 2 * 2 ^ i) (sym e)

@@ -16,10 +16,13 @@ use arithmetic::HalvingRowUnit;
 use arithmetic::RowUnit;
 use arithmetic::WordByWord;
 use arithmetic::WordByWordRowUnit;
+use arithmetic::WordRing;
+use arithmetic::times_phi1;
 use std::alloc::Global;
 
 pub(crate) fn run(rt: &LibcRuntime) -> Result<(), Fault> {
     small_product(rt)?;
+    small_differences(rt)?;
     for n in [5usize, 7, 701] {
         products(rt, n)?;
         inverses(rt, n)?;
@@ -37,6 +40,32 @@ fn small_product(rt: &LibcRuntime) -> Result<(), Fault> {
         &[1, 65535, 1, 0, 0],
     )?;
     println!(rt, "(1 + x) (1 - x + x^2) with 5 coefficients: {out:?}")?;
+    Ok(())
+}
+
+// x - 1 times 1 + x, over words and over digits.
+fn small_differences(rt: &LibcRuntime) -> Result<(), Fault> {
+    let heap = rt.alloc();
+    let mut words = [0u16; 5];
+    let mut digits = [Digit::ZERO; 5];
+    if times_phi1(&[1u16, 1, 0, 0, 0], &mut words)
+        && times_phi1(
+            &[
+                Digit::ONE,
+                Digit::ONE,
+                Digit::ZERO,
+                Digit::ZERO,
+                Digit::ZERO,
+            ],
+            &mut digits,
+        )
+    {
+        let codes = work::codes(heap, &digits)?;
+        println!(
+            rt,
+            "(x - 1) (1 + x): {words:?} in words, {codes:?} in digits with 2 for -1"
+        )?;
+    }
     Ok(())
 }
 
@@ -112,6 +141,18 @@ fn check(heap: Global, f: &[u16], u: &[u16], modulus: u16) -> Result<(), Fault> 
     }
 }
 
+// The same modulo 3, for words 0, 1 and 2: no sum wraps, so each can be reduced at the end.
+fn check_modulo_3(heap: Global, f: &[u16], u: &[u16]) -> Result<(), Fault> {
+    let mut unit = WordByWord::new();
+    let back = work::product(heap, &mut unit, f, u)?;
+    let mut digits = work::digits(heap, back.as_slice())?;
+    if work::digits_reduce_to_one(digits.as_mut_slice()) {
+        Ok(())
+    } else {
+        Err(Fault::WrongInverse)
+    }
+}
+
 fn inverses(rt: &LibcRuntime, n: usize) -> Result<(), Fault> {
     let heap = rt.alloc();
     let f = invertible(heap, n)?;
@@ -119,7 +160,7 @@ fn inverses(rt: &LibcRuntime, n: usize) -> Result<(), Fault> {
     let codes = work::codes(heap, f.as_slice())?;
     let (by_two, by_three, by_words) = three_inverses(heap, f.as_slice())?;
     check(heap, words.as_slice(), by_two.as_slice(), 2)?;
-    check(heap, codes.as_slice(), by_three.as_slice(), 3)?;
+    check_modulo_3(heap, codes.as_slice(), by_three.as_slice())?;
     check(heap, words.as_slice(), by_words.as_slice(), 8192)?;
     println!(
         rt,

@@ -128,11 +128,8 @@ pub(crate) fn word_inverse<U: RowUnit>(
     }
 }
 
-// Whether a polynomial of words reduces to 1 modulo a modulus that divides 65536, or modulo 3 where nothing wrapped.
+// Whether a polynomial of words reduces to 1 modulo a modulus that divides 65536.
 pub(crate) fn reduces_to_one(p: &mut [u16], modulus: u16) -> bool {
-    if modulus == 3 {
-        return reduces_to_one_modulo_3(p);
-    }
     subtract_last(p);
     for (i, word) in p.iter().enumerate() {
         let one = if i == 0 { 1 } else { 0 };
@@ -143,18 +140,25 @@ pub(crate) fn reduces_to_one(p: &mut [u16], modulus: u16) -> bool {
     true
 }
 
-fn reduces_to_one_modulo_3(p: &[u16]) -> bool {
-    let last = match p.last() {
-        Some(word) => Digit::from_number(*word),
-        None => Digit::ZERO,
-    };
-    for (i, word) in p.iter().enumerate() {
+// The same over digits.
+pub(crate) fn digits_reduce_to_one(p: &mut [Digit]) -> bool {
+    subtract_last(p);
+    for (i, digit) in p.iter().enumerate() {
         let one = if i == 0 { Digit::ONE } else { Digit::ZERO };
-        if !Digit::from_number(*word).sum(last.negation()).same(one) {
+        if !digit.same(one) {
             return false;
         }
     }
     true
+}
+
+// Words modulo 3.
+pub(crate) fn digits(heap: Global, words: &[u16]) -> Result<Vec<Digit>, Fault> {
+    let mut all = Vec::new(heap);
+    for word in words {
+        all.push(Digit::from_number(*word))?;
+    }
+    Ok(all)
 }
 
 // Digits as words 0, 1 and 2.

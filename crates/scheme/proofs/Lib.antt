@@ -3,3 +3,5 @@ mod DrawnSigns
 mod PairRecords
 mod TernaryDigits
 mod Verdicts
+mod WordBytes
+mod WordPolynomials

@@ -2,6 +2,9 @@ pub mod Refusals
 pub mod Sets
 pub mod Coins
 pub mod TernaryParts
+pub mod WordParts
+pub mod WordPolynomials
+pub mod Cards
 pub mod Signs
 pub mod Draws
 pub mod Jobs

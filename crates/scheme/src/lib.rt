@@ -1,15 +1,22 @@
 // The scheme: parameter sets, coins and what is drawn from them, and records.
 ghost use Rattle.scheme.specs.Examples.{Coin-halves, Pair-of-coins, Settled-signs};
 
+mod card;
 mod coins;
 mod draws;
 mod job;
 mod pair;
+mod polynomial;
 mod refusal;
 mod set;
 mod signs;
 mod ternary;
+mod words;
 
+pub use card::CardReader;
+pub use card::Part;
+pub use card::Parts;
+pub use card::split_card;
 pub use coins::coin_digits;
 pub use draws::draw_key;
 pub use draws::draw_pair;
@@ -18,6 +25,8 @@ pub use refusal::Refusal;
 pub use set::ParameterSet;
 pub use ternary::read_ternary_part;
 pub use ternary::write_ternary_part;
+pub use words::read_word_part;
+pub use words::write_word_part;
 
 // The worked values follow from the definitions that the contracts cite.
 pub fn examples_hold() -> u8

@@ -2,7 +2,7 @@
 use Prim.Native.Nat.{ℕ, _*_, _-_, _%_, _^_, _<_, _≤_}
 use mathlib.Core.Path.{_≡_}
 
--- n is at most 1408 and has no factor 2 or 3, the modulus is 2 ^ w with w at most 16, and 128 (n - 1)² < 2 ^ w * 2 ^ w
+-- n is 2 to 1408 and has no factor 2 or 3, the modulus is 2 ^ w with w at most 16, and 128 (n - 1)² < 2 ^ w * 2 ^ w
 pub record Set (n w : ℕ) : Type 0 where
   pub long : 2 ≤ n
   pub few : n ≤ 1408

@@ -69,7 +69,7 @@ pub fn multiply<U: RowUnit>(
     Ok(())
 }
 
-// What the words of a product are modulo 2 ^ w, and modulo 3.
+// What the words of a product are modulo 2 ^ w, and that products of words 0, 1 and 2 do not wrap.
 pub fn products_hold() -> u8
     ensures lowest_bits { λ _. ⌜ Masked-products ⌝ }
     ensures no_sum_wraps { λ _. ⌜ Ternary-products ⌝ }

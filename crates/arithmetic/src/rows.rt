@@ -12,7 +12,7 @@ pub(crate) const MOST_WORDS: usize = 1408;
 // Why a row was not served.
 #[derive(Clone, Copy, PartialEq, Eq, Debug)]
 pub enum RowRefusal {
-    // The list is not 1 to 1408 words long, or the output is not as long as the list.
+    // The list of a row is not 1 to 1408 words long or the output not as long as the list; or the lists of a product do not fit.
     Length,
 }
 

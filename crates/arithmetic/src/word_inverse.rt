@@ -80,6 +80,7 @@ fn start_over(
     }
 }
 
+// The same with lists of its own.
 fn start(f: &[u16], u: &mut [u16]) -> bool
     requires sizes { ⌜ 2 ≤ length (now f) ⌝ ∗ ⌜ length (now f) ≤ 1408 ⌝ ∗ ⌜ length (now u) ≡ length (now f) ⌝ }
     ensures found { λ x. ⌜ (x ≡ true → Inverse-mod 2 (length (now (f .entry))) (integers-of (now (f .entry))) (integers-of (now (u .exit)))) ⌝ }
@@ -104,6 +105,7 @@ fn start(f: &[u16], u: &mut [u16]) -> bool
     )
 }
 
+// From the inverse modulo 2 to the one modulo 65536, with lists of its own: 2816 words hold a second factor twice.
 fn lift<U: RowUnit>(unit: &mut U, f: &[u16], u: &mut [u16])
     requires sizes { ⌜ 1 ≤ length (now f) ⌝ ∗ ⌜ length (now f) ≤ 1408 ⌝ ∗ ⌜ length (now u) ≡ length (now f) ⌝ }
     ensures lifted { λ _. ⌜ Lifted (now (f .entry)) (now (u .entry)) (now (u .exit)) ⌝ }
@@ -115,6 +117,7 @@ fn lift<U: RowUnit>(unit: &mut U, f: &[u16], u: &mut [u16])
     lift_inverse(unit, f, u, &mut doubled[0..2 * n], &mut p[0..n]);
 }
 
+// The inverse where everything suits; u is room for the inverse modulo 65536.
 fn invert<U: RowUnit>(
     unit: &mut U,
     width: u32,

@@ -8,7 +8,7 @@ pub(crate) fn meaning(refusal: Refusal) -> &'static str {
         Refusal::InputLength =>
             "the input has the wrong length for this set; for coins draw 4, 6 or 700 new bytes for set 1, 2 or 3",
         Refusal::OutputLength =>
-            "the output has the wrong length for this set; lend 2, 4 or 280 bytes for a pair record of set 1, 2 or 3",
+            "the output has the wrong length for this set; a pair record has 2, 4 or 280 bytes at set 1, 2 or 3, and this program should have known: report it",
         Refusal::TernaryByte =>
             "a byte above F2 stands where five ternary digits should; the card or record is damaged, take another copy",
     }

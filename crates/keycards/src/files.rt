@@ -10,7 +10,7 @@ use std::io::ErrorKind;
 use std::io::Read;
 use std::io::Write;
 
-// A coin file that is open for reading, and once more for overwriting.
+// A coin file that is open for reading, and once more for overwriting: coins that could not be zeroed are never read.
 #[derive(Drop)]
 pub struct CoinFile {
     reader: File,
@@ -73,7 +73,7 @@ impl CoinFile {
         path: &str,
         zeros: &[u8],
     ) -> Result<(), Trouble> {
-        match erase(&mut self.eraser, zeros) {
+        match write_and_flush(&mut self.eraser, zeros) {
             Ok(()) => Ok(()),
             Err(_) => Err(of_file(
                 rt.alloc(),
@@ -84,8 +84,8 @@ impl CoinFile {
     }
 }
 
-fn erase(file: &mut File, zeros: &[u8]) -> io::Result<()> {
-    file.write_all(zeros)?;
+fn write_and_flush(file: &mut File, bytes: &[u8]) -> io::Result<()> {
+    file.write_all(bytes)?;
     file.sync_all()
 }
 
@@ -123,7 +123,7 @@ pub(crate) fn fill(
     path: &str,
     bytes: &[u8],
 ) -> Result<(), Trouble> {
-    match erase(&mut file, bytes) {
+    match write_and_flush(&mut file, bytes) {
         Ok(()) => Ok(()),
         Err(_) => {
             withdraw(rt, path);

@@ -1,4 +1,4 @@
-// keycards: what fitters and the depot use on coins, cards and records.
+// keycards: what fitters use on coins and records.
 use std::env;
 use std::error::AnyError;
 
@@ -20,9 +20,10 @@ const HELP: &str = "keycards: link keys for heat pump controllers
   keycards help                   this text
 
 SET is 1, 2 or 3. Files are raw bytes; coins have 4, 6 or 700 bytes, pair records 2, 4 or 280, for sets 1, 2 and 3.
-Coins serve once: the file COINS is overwritten with zeros however the call ends.
-A file that is there already is never overwritten: give PAIR a new name.
-A refusal is one line, 'refused NUMBER: what it means and what to do'; nothing is written then, and the status is 1.";
+Coins serve once: as soon as they are read, the file COINS is overwritten with zeros, also where they are refused. So look twice
+that it is the coin file which you name there. Nothing is read of it where SET is no number or PAIR cannot be made.
+A file that is there already is never replaced: give PAIR a new name.
+A refusal is one line, 'refused NUMBER: what it means and what to do'; there is no PAIR then, and the status is 1.";
 
 fn run(rt: &LibcRuntime) -> Result<(), Trouble> {
     let mut words = Vec::new(rt.alloc());

@@ -11,7 +11,11 @@ use scheme::ParameterSet;
 
 pub(crate) fn run(rt: &LibcRuntime, set: &str, coins: &str, pair: &str) -> Result<(), Trouble> {
     let Ok(number) = set.parse::<u32>() else {
-        return Err(of_file(rt.alloc(), set, "is not a number; sets are 1, 2 and 3"));
+        return Err(of_file(
+            rt.alloc(),
+            set,
+            "is not the number of a set; sets are 1, 2 and 3",
+        ));
     };
     // A number that no byte holds is no set, as 0 is.
     let number = u8::try_from(number).unwrap_or(0);

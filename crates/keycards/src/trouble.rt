@@ -39,7 +39,7 @@ pub impl fmt::Display for Trouble as TroubleDisplay {
             Trouble::Said(text) => write!(f, "keycards: {text}"),
             Trouble::Io(e) => write!(f, "keycards: {e}"),
             Trouble::NoMemory => f.write_str(
-                "keycards: there is not enough memory; nothing was written",
+                "keycards: there is not enough memory; no output was written. Look whether the coin file is zeros before you use it again",
             ),
         }
     }

@@ -13,11 +13,11 @@ use Rattle.std.proofs.shelf.Bits.{mul-add-lt}
 use Rattle.std.proofs.shelf.Tests.{leb-true, le-leb, lt-leb, and-parts}
 use Rattle.algebra.specs.Radix.{numeral, digits, digit-at, Under}
 use Rattle.algebra.proofs.Radix.{Regroups, regroups-read, regroups-write, length-digits}
-use Rattle.algebra.proofs.Regrouping.{written-in-order, back, under-map, digits-under}
+use Rattle.algebra.proofs.Regrouping.{written-in-order, read-in-order, read-alike, back, under-map, digits-under}
 use Rattle.arithmetic.specs.Digits.{digit}
 use Rattle.arithmetic.specs.declared.digit.Digit.{Digit}
 use Rattle.arithmetic.proofs.Digits.{digit-code}
-use Rattle.scheme.specs.TernaryParts.{codes, part-bytes, ternary-part, ternary-digits, Holds-digits, holds-digits}
+use Rattle.scheme.specs.TernaryParts.{codes, part-bytes, ternary-part, ternary-digits, Holds-digits, Takes-digits, holds-digits}
 
 pub digits-codes : (ds : List Digit) → map digit (codes ds) ≡ ds
 digits-codes [] = refl
@@ -95,19 +95,35 @@ reads-back ds =
     ap (λ n. digits 3 n (numeral 243 (ternary-part ds))) (sym (length-map ds (λ x. x .code))) ∙ e ∙ under-map 3 (codes ds) (codes-under ds) in
     ap (map digit) whole ∙ digits-codes ds
 
--- a list of digits, one to a number
-single : (ds : List Digit) (k : ℕ) → digit-at 3 1 (codes ds) k ≡ getD (codes ds) k 0 % 3
-single ds k =
+-- one digit to a number
+single : (xs : List ℕ) (k : ℕ) → digit-at 3 1 xs k ≡ getD xs k 0 % 3
+single xs k =
     let q : k / 1 ≡ k = omega arith in
     let r : k % 1 ≡ 0 = omega arith in
     rw (q, r, pow-zero) (omega arith)
 
 pub holds-each : (ds : List Digit) → Holds-digits ds (ternary-part ds)
 holds-each ds = record {
-  each = λ k h. order k ∙ single ds k ∙ mod-eq-of-lt (codes-under ds k (rw length-map h)) ∙ getD-map (λ x. x .code) ds k (digit 0) 0 h;
-  spare = λ k h. order k ∙ single ds k ∙ ap (λ x. x % 3) (getD-past (codes ds) k 0 (rw length-map h));
+  each = λ k h. order k ∙ single (codes ds) k ∙ mod-eq-of-lt (codes-under ds k (rw length-map h)) ∙ getD-map (λ x. x .code) ds k (digit 0) 0 h;
+  spare = λ k h. order k ∙ single (codes ds) k ∙ ap (λ x. x % 3) (getD-past (codes ds) k 0 (rw length-map h));
   long = length-digits 243 (part-bytes (length ds)) (numeral 3 (codes ds));
+  five = digits-under 243 (omega arith) (part-bytes (length ds)) (numeral 3 (codes ds));
 }
   where
     order : (k : ℕ) → digit-at 3 5 (ternary-part ds) k ≡ digit-at 3 1 (codes ds) k
     order k = written-in-order 3 1 5 (omega arith) (omega arith) (omega arith) (part-bytes (length ds)) (codes ds) (room ds) k
+
+pub takes-each : (n : ℕ) (bytes : List ℕ) → Takes-digits bytes (ternary-digits n bytes)
+takes-each n bytes = record {
+  each = λ k h.
+      let l : k < n = omega (arith, long) in
+      let within : k < length (digits 3 n (numeral 243 bytes)) = omega (arith, length-digits 3 n (numeral 243 bytes)) in
+      ap (λ d. d .code) (getD-map digit (digits 3 n (numeral 243 bytes)) k 0 (digit 0) within)
+      ∙ sym (single (digits 3 n (numeral 243 bytes)) k) ∙ read-in-order 3 5 1 (omega arith) (omega arith) (omega arith) n bytes k (omega arith);
+  spare = λ other same.
+      ap (λ m. ternary-digits m other) long
+      ∙ ap (map digit) (read-alike 3 5 1 (omega arith) (omega arith) (omega arith) n other bytes (λ k l. same k (omega (arith, long))));
+}
+  where
+    long : length (ternary-digits n bytes) ≡ n
+    long = length-map (digits 3 n (numeral 243 bytes)) digit ∙ length-digits 3 n (numeral 243 bytes)

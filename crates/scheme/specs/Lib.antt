@@ -10,3 +10,4 @@ pub mod Draws
 pub mod Jobs
 pub mod Pairs
 pub mod Examples
+pub mod Tables

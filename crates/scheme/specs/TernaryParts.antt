@@ -5,7 +5,7 @@ use mathlib.Core.Bool.{Bool, true, not, _&&_}
 use mathlib.Core.List.{List, [], _∷_, map}
 use lib.Dec.{leb, eqb}
 use lib.ListN.{length, getD}
-use Rattle.algebra.specs.Radix.{numeral, digits, digit-at}
+use Rattle.algebra.specs.Radix.{numeral, digits, digit-at, Under}
 use Rattle.arithmetic.specs.Digits.{digit}
 use Rattle.arithmetic.specs.declared.digit.Digit.{Digit}
 use Rattle.scheme.specs.declared.refusal.Refusal.the-variants.{InputLength, OutputLength, TernaryByte}
@@ -27,11 +27,17 @@ ternary-part ds = digits 243 (part-bytes (length ds)) (numeral 3 (codes ds))
 abbrev pub ternary-digits : ℕ → List ℕ → List Digit
 ternary-digits count bs = map digit (digits 3 count (numeral 243 bs))
 
--- digit k of the bytes, five to a byte, is digit k of the list, and digits beyond the list are zero
+-- digit k of the bytes, five to a byte, is digit k of the list, digits beyond the list are zero, and no byte is above F2
 pub record Holds-digits (ds : List Digit) (bytes : List ℕ) : Type 0 where
   pub each : (k : ℕ) → k < length ds → digit-at 3 5 bytes k ≡ getD ds k (digit 0) .code
   pub spare : (k : ℕ) → length ds ≤ k → digit-at 3 5 bytes k ≡ 0
   pub long : length bytes ≡ part-bytes (length ds)
+  pub five : Under 243 bytes
+
+-- digit k of the list is digit k of the bytes, five to a byte, and no other digit of the bytes is looked at
+pub record Takes-digits (bytes : List ℕ) (ds : List Digit) : Type 0 where
+  pub each : (k : ℕ) → k < length ds → getD ds k (digit 0) .code ≡ digit-at 3 5 bytes k
+  pub spare : (other : List ℕ) → ((k : ℕ) → k < length ds → digit-at 3 5 other k ≡ digit-at 3 5 bytes k) → ternary-digits (length ds) other ≡ ds
 
 -- each byte holds five digits: none is above F2
 abbrev pub holds-digits : List ℕ → Bool

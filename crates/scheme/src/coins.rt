@@ -5,7 +5,7 @@ ghost use lib.ListN.{length};
 ghost use Rattle.scheme.specs.Coins.{coin, By-the-rule, drawn};
 use arithmetic::Digit;
 
-// The values of the sixteen halves of a byte, 0 to 15.
+// What each of the sixteen possible halves of a byte gives, 0 to 15.
 const COINS: [i8; 16] = [0, 1, 1, -1, -1, 0, 0, 1, -1, 0, 0, 1, 1, -1, -1, 0];
 
 fn coin_digit(half: u8) -> Digit

@@ -1,5 +1,6 @@
 // The scheme: parameter sets, coins and what is drawn from them, and records.
 ghost use Rattle.scheme.specs.Examples.{Coin-halves, Pair-of-coins, Settled-signs};
+ghost use Rattle.scheme.specs.Tables.{Smallest-given};
 
 mod card;
 mod coins;
@@ -33,6 +34,13 @@ pub fn examples_hold() -> u8
     ensures coin_halves { λ _. ⌜ Coin-halves ⌝ }
     ensures settled_signs { λ _. ⌜ Settled-signs ⌝ }
     ensures pair_of_coins { λ _. ⌜ Pair-of-coins ⌝ }
+{
+    0
+}
+
+// Where several refusals fit, the smallest number is given, in every table that the contracts cite.
+pub fn smallest_refusals_given() -> u8
+    ensures smallest_number { λ _. ⌜ Smallest-given ⌝ }
 {
     0
 }

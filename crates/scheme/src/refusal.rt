@@ -7,7 +7,7 @@ ghost use Rattle.scheme.specs.Refusals.{numberOf};
 pub enum Refusal {
     // There is no parameter set of that number.
     NoSuchSet,
-    // Coins, or a part that is read, have the wrong length.
+    // Coins, a card or a part have the wrong length, or there is no word part of that width or number of coefficients.
     InputLength,
     // The output has the wrong length.
     OutputLength,

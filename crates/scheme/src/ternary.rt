@@ -5,7 +5,7 @@ ghost use Prim.Native.Nat.{ℕ, _+_, _*_, _/_, _<_, _≤_};
 ghost use lib.ListN.{length};
 ghost use Rattle.std.specs.declared.result.Result.the-variants.{Ok};
 ghost use Rattle.scheme.specs.Refusals.{left, verdict};
-ghost use Rattle.scheme.specs.TernaryParts.{Holds-digits, holds-digits, reads, ternary-digits, ternary-part, writes};
+ghost use Rattle.scheme.specs.TernaryParts.{Holds-digits, Takes-digits, holds-digits, reads, ternary-digits, ternary-part, writes};
 use crate::refusal::Refusal;
 use arithmetic::Digit;
 
@@ -30,6 +30,7 @@ pub fn write_ternary_part(digits: &[Digit], out: &mut [u8]) -> Result<(), Refusa
 pub fn read_ternary_part(bytes: &[u8], out: &mut [Digit]) -> Result<(), Refusal>
     ensures answer { λ r. ⌜ r ≡ verdict (reads (length (now (out .entry))) (now (bytes .entry))) ⌝ }
     ensures output { λ r. ⌜ now (out .exit) ≡ left r (ternary-digits (length (now (out .entry))) (now (bytes .entry))) (now (out .entry)) ⌝ }
+    ensures digit_by_digit { λ r. ⌜ (r ≡ Ok tt → Takes-digits (now (bytes .entry)) (now (out .exit))) ⌝ }
 {
     if bytes.len() != out.len().div_ceil(5) {
         return Err(Refusal::InputLength);

@@ -1,5 +1,5 @@
 #!/usr/bin/env python3
-"""Holds the program's pair records against those of the reference model.
+"""Holds the program's pair records against those of two models: reference.py, and pair_from_docs.py, which was written from the docs alone.
 
     python3 tools/compare_pairs.py [PROGRAM] [--seed SEED] [--turns TURNS]
 
@@ -25,6 +25,7 @@ from pathlib import Path
 sys.dont_write_bytecode = True
 sys.path.insert(0, str(Path(__file__).resolve().parent))
 
+import pair_from_docs  # noqa: E402
 import reference  # noqa: E402
 
 ROOT = Path(__file__).resolve().parent.parent
@@ -67,6 +68,8 @@ class Comparison:
         """Coins that are served."""
         self.counts[f"set {number}: pair records compared"] += 1
         wanted = reference.pair(number, coins)
+        if pair_from_docs.pair(number, coins, len(wanted)) != ("ok", bytes(wanted)):
+            self.differs(number, coins, "the two models differ")
         status, error, written = self.run(number, coins)
         if status != 0:
             self.differs(number, coins, f"status {status}, {error.strip() or 'with no message'}")

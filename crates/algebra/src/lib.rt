@@ -1,4 +1,6 @@
 // Theorems of the mathematics below the libraries. Each function's contract is one, and nothing runs.
+#![tactic(auto)]
+
 ghost use Rattle.algebra.specs.Example.{Example};
 ghost use Rattle.algebra.specs.RingTheorems.{EveryRing, CyclicPolynomials, ReducedPolynomials, Totals, Phi1Ones, Reduction, Determined, Division, PowerSeries, Folding};
 ghost use Rattle.algebra.specs.SchemeTheorems.{SetsSuffice, LiftsAreUnique, CandidatesDecide, KeysAreTested, MadeEquationsHold, MakingMakesKeys, FlipsNegate, CombinationsAreSmall, CiphertextsAreBalanced, OpeningComputes, OpeningGivesBack, OpenedPairsEncrypt, RefusedHaveNoPair, PairsAreUnique};

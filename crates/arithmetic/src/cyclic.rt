@@ -12,9 +12,9 @@ use crate::rings::Ring;
 pub fn times_phi1<R: Ring>(v: &[R], out: &mut [R]) -> bool
     ensures served_where_lengths_agree { result ≡ true → length out.old ≡ length v.now }
     ensures refused_where_lengths_differ { result ≡ false → length out.old ≢ length v.now }
-    ensures cyclic_product_by_x_less_one { result ≡ true → poly ring value out.new ≡ cyclic ring (length v.now) (x_less_one ring) (poly ring value v.now) }
-    ensures each_coefficient { result ≡ true → (k : ℕ) → k < length v.now → poly ring value out.new k ≡ phi1 ring (length v.now) (poly ring value v.now) k }
-    ensures over_the_integers { result ≡ true → 2 ≤ length v.now → (k : ℕ) (number : Value → ℤ) → Stands ring k number → SameMod k (length v.now) (numbers number (poly ring value out.new)) (times (length v.now) (Φ1 (length v.now)) (numbers number (poly ring value v.now))) }
+    ensures cyclic_product_by_x_less_one { result ≡ true → poly R.ring R.value out.new ≡ cyclic R.ring (length v.now) (x_less_one R.ring) (poly R.ring R.value v.now) }
+    ensures each_coefficient { result ≡ true → (k : ℕ) → k < length v.now → poly R.ring R.value out.new k ≡ phi1 R.ring (length v.now) (poly R.ring R.value v.now) k }
+    ensures over_the_integers { result ≡ true → 2 ≤ length v.now → (k : ℕ) (number : R.Value → ℤ) → Stands R.ring k number → SameMod k (length v.now) (numbers number (poly R.ring R.value out.new)) (times (length v.now) (Φ1 (length v.now)) (numbers number (poly R.ring R.value v.now))) }
     ensures refusal_leaves_out { result ≡ false → out.new ≡ out.old }
 {
     let n = v.len();
@@ -30,8 +30,8 @@ pub fn times_phi1<R: Ring>(v: &[R], out: &mut [R]) -> bool
 
 // Subtracts the last coefficient from all.
 pub fn subtract_last<R: Ring>(v: &mut [R])
-    ensures last_subtracted_from_all { (k : ℕ) → k < length v.old → poly ring value v.new k ≡ less_last ring (length v.old) (poly ring value v.old) k }
-    ensures over_the_integers { (k : ℕ) (number : Value → ℤ) → Stands ring k number → SameMod k (length v.old) (numbers number (poly ring value v.new)) (reduce integers (length v.old) (numbers number (poly ring value v.old))) }
+    ensures last_subtracted_from_all { (k : ℕ) → k < length v.old → poly R.ring R.value v.new k ≡ less_last R.ring (length v.old) (poly R.ring R.value v.old) k }
+    ensures over_the_integers { (k : ℕ) (number : R.Value → ℤ) → Stands R.ring k number → SameMod k (length v.old) (numbers number (poly R.ring R.value v.new)) (reduce integers (length v.old) (numbers number (poly R.ring R.value v.old))) }
 {
     let n = v.len();
     if n == 0 {

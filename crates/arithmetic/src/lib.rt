@@ -1,5 +1,7 @@
 // Arithmetic: coefficients, polynomials over any commutative ring or field, row units, products and inverses. Polynomials are slices of
 // coefficients, lowest first. Nothing allocates.
+#![tactic(auto)]
+
 mod bit;
 mod cyclic;
 mod digit;

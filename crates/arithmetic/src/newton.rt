@@ -47,7 +47,7 @@ pub(crate) fn refine<U: RowUnit>(
     requires sized { Sized f.now u.old doubled.old p.old }
     ensures step { SameMod 65536 (length f.now) (integers_of u.new) (refined (length f.now) (integers_of f.now) (integers_of u.old)) }
     ensures words { u.new ≡ words_of (length f.now) (refined (length f.now) (integers_of f.now) (integers_of u.old)) }
-    ensures count { rows unit.new ≡ raised (2 * length f.now) (rows unit.old) }
+    ensures count { U.rows unit.new ≡ raised (2 * length f.now) (U.rows unit.old) }
 {
     write_twice(u, doubled);
     multiply_doubled(unit, f, doubled, p);
@@ -66,7 +66,7 @@ pub(crate) fn lift_inverse<U: RowUnit>(
 )
     requires sized { Sized f.now u.old doubled.old p.old }
     ensures lifted { Lifted f.now u.old u.new }
-    ensures count { rows unit.new ≡ raised (8 * length f.now) (rows unit.old) }
+    ensures count { U.rows unit.new ≡ raised (8 * length f.now) (U.rows unit.old) }
 {
     refine(unit, f, u, doubled, p);
     refine(unit, f, u, doubled, p);

@@ -55,7 +55,7 @@ pub(crate) fn multiply_doubled<U: RowUnit>(
     requires room { length doubled.now ≡ 2 * length u.now }
     requires result { length out.old ≡ length u.now }
     ensures words { (v : List ℕ) → doubled.now ≡ v ++ v → out.new ≡ cyclic_product u.now v }
-    ensures count { rows unit.new ≡ raised (length u.now) (rows unit.old) }
+    ensures count { U.rows unit.new ≡ raised (length u.now) (U.rows unit.old) }
 {
     clear(out);
     let n = u.len();
@@ -73,7 +73,7 @@ pub fn multiply<U: RowUnit>(
     doubled: &mut [u16],
     out: &mut [u16],
 ) -> Result<(), RowRefusal>
-    ensures product { Product u.now v.now doubled.old out.old (rows unit.old) result doubled.new out.new (rows unit.new) }
+    ensures product { Product u.now v.now doubled.old out.old (U.rows unit.old) result doubled.new out.new (U.rows unit.new) }
 {
     let n = u.len();
     if n < 1 || n > MOST_WORDS || v.len() != n || doubled.len() != 2 * n || out.len() != n {

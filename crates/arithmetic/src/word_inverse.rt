@@ -104,7 +104,7 @@ fn start(f: &[u16], u: &mut [u16]) -> bool
 fn lift<U: RowUnit>(unit: &mut U, f: &[u16], u: &mut [u16])
     requires sizes { (1 ≤ length f.now) × ((length f.now ≤ 1408) × (length u.old ≡ length f.now)) }
     ensures lifted { Lifted f.now u.old u.new }
-    ensures count { rows unit.new ≡ raised (8 * length f.now) (rows unit.old) }
+    ensures count { U.rows unit.new ≡ raised (8 * length f.now) (U.rows unit.old) }
 {
     let n = f.len();
     let mut doubled = [0u16; 2816];
@@ -122,7 +122,7 @@ fn invert<U: RowUnit>(
 ) -> Option<usize>
     requires taken { Taken width f.now res.old }
     requires room { length u.old ≡ length f.now }
-    ensures answered { Answered width f.now res.old (rows unit.old) result res.new (rows unit.new) }
+    ensures answered { Answered width f.now res.old (U.rows unit.old) result res.new (U.rows unit.new) }
 {
     if !start(f, u) {
         return None;
@@ -139,7 +139,7 @@ pub fn inverse_of_words<U: RowUnit>(
     f: &[u16],
     res: &mut [u16],
 ) -> Option<usize>
-    ensures none_exactly_when_none_serves { Answered width f.now res.old (rows unit.old) result res.new (rows unit.new) }
+    ensures none_exactly_when_none_serves { Answered width f.now res.old (U.rows unit.old) result res.new (U.rows unit.new) }
 {
     let n = f.len();
     if width < 1 || width > 16 || n < 2 || n > MOST_WORDS || res.len() != n {

@@ -1,4 +1,6 @@
 // bench: make, the key test, seal and open at set 3, once or timed. tools/bench/run.py holds the times against a plain C product.
+#![tactic(auto)]
+
 use anyhow::anyhow;
 use std::env;
 

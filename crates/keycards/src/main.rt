@@ -1,4 +1,6 @@
 // keycards: what fitters use on coins and records.
+#![tactic(auto)]
+
 use anyhow::anyhow;
 use std::env;
 

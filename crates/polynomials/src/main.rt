@@ -1,4 +1,6 @@
 // polynomials: the arithmetic library at work. It multiplies and inverts polynomials, checks what it got, and says so.
+#![tactic(auto)]
+
 use anyhow::anyhow;
 use std::env;
 

@@ -1,4 +1,6 @@
 // The scheme: parameter sets, coins and what is drawn from them, and records.
+#![tactic(auto)]
+
 ghost use Rattle.scheme.specs.Examples.{CoinHalves, PairOfCoins, SettledSigns};
 ghost use Rattle.scheme.specs.Tables.{SmallestGiven};
 

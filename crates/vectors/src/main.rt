@@ -1,5 +1,7 @@
 // vectors: carries out the cases of make, seal, open and the key test that stand on standard input, one a line, and prints
 // what each gives. The cases and what they must give are made by tools/reference.py, which shares no code with the libraries.
+#![tactic(auto)]
+
 use anyhow::anyhow;
 use std::io::{BufRead, BufReader};
 

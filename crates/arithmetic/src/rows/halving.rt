@@ -41,7 +41,7 @@ fn add_halves<U: RowUnit>(
     requires same_length { length out.old ≡ length list.now }
     ensures served { result ≡ Ok tt }
     ensures words { out.new ≡ row_sum 65536 factor list.now out.old }
-    ensures two_rows { rows below.new ≡ raised 2 (rows below.old) }
+    ensures two_rows { U.rows below.new ≡ raised 2 (U.rows below.old) }
 {
     let h = upper_half(list.len());
     below.row(factor, &list[0..h], &mut out[0..h])?;

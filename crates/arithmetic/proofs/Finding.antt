@@ -1,13 +1,11 @@
 -- From an inverse modulo 2, lifted and masked, to the only reduced inverse modulo 2 ^ w.
-use Rattle.std.proofs.Common.{◌≡◌, ℕ, suc, ◌+◌, ◌-◌, ◌*◌, ◌%◌, ◌^◌, ◌<◌, ◌≤◌, ◌⊎◌, List, length, get_or, pos, sym, refl, ap, ◌∙◌, subst, inl, inr, mod-lt, mod-eq_of_lt, arith, lit<}
-use native.Mathlib.Nat.{zero-mod, mod-mod, pow-le-pow_right}
+use Rattle.std.proofs.Common.{◌≡◌, ℕ, ◌-◌, ◌%◌, ◌^◌, ◌<◌, ◌≤◌, List, length, get_or, pos, sym, ap, ◌∙◌, subst, inl, inr, mod-lt, mod-eq_of_lt, arith, lit<}
+use native.Mathlib.Nat.{zero-mod, pow-le-pow_right}
 use Rattle.std.proofs.lemmas.Nat.{pow_pos}
 use Rattle.std.proofs.lemmas.List.{ext_get_or, get_or_past}
 use Rattle.std.proofs.lemmas.Bool.{cases_lt}
-use Rattle.algebra.specs.Ring.{Differ, integers}
 use Rattle.algebra.specs.Residues.{residue, residues, residue_laws}
 use Rattle.algebra.specs.Polynomials.{Poly, SameMod, InverseMod, NoInverseMod}
-use Rattle.algebra.specs.Radix.{Under}
 use Rattle.algebra.specs.Stands.{numbers, residue_number}
 use Rattle.algebra.proofs.Cyclic.{cyclic_laws}
 use Rattle.algebra.proofs.Integers.{mod_laws, equal_mod}

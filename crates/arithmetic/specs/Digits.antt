@@ -1,5 +1,5 @@
 -- Digits modulo 3: the values -1, 0 and 1, held by the codes 2, 0 and 1.
-use Rattle.std.specs.Prelude.{ℕ, zero, suc, ◌-◌, ◌%◌, ◌<◌, List, ℤ, pos, negsuc, slice_index_or}
+use Rattle.std.specs.Prelude.{ℕ, zero, suc, ◌-◌, ◌%◌, List, ℤ, pos, negsuc, slice_index_or}
 use Rattle.std.proofs.Common.{mod-lt, lit<}
 use Rattle.algebra.specs.Stands.{signed}
 use Rattle.arithmetic.specs.declared.digit.Digit.{Digit}

@@ -1,4 +1,4 @@
-use Rattle.std.proofs.Common.{◌-◌, length, refl, arith}
+use Rattle.std.proofs.Common.{length, refl, arith}
 use Rattle.euclid.specs.Series.{poly}
 use Rattle.euclid.proofs.Lists.{top_undone}
 use Rattle.euclid.proofs.Ending.{ended_none, ended_one}
@@ -18,8 +18,8 @@ returns-then-size-gt1 g c = record {
       (ended_none F.laws (length r) a (p r) (p c.args.t.now) c.args.size (F.value c.inverse-factor.result) c.if-size-gt1.true undone E, refl);
 }
 
-pub overflow-sub-result : goal.overflow-sub-result
-overflow-sub-result g c =
+pub overflow_sub-result : goal.overflow_sub-result
+overflow_sub-result g c =
     let F = g.F.Ring in
     let p = poly F.ring F.value in
     let r = c.args.r.now in

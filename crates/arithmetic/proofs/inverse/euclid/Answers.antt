@@ -1,4 +1,4 @@
-use Rattle.std.proofs.Common.{◌≡◌, ℕ, ◌-◌, List, length, sym, refl, subst₂, arith, MatchOption}
+use Rattle.std.proofs.Common.{◌≡◌, ℕ, List, length, sym, refl, subst₂, arith, MatchOption}
 use Rattle.euclid.specs.Series.{poly}
 use Rattle.euclid.specs.Inverses.{Inverted, NoInverse}
 use Rattle.euclid.specs.Method.{Ended, Reached}
@@ -53,7 +53,7 @@ returns-then-m-eq0 g c = record {
       let none : c.reduce_both-m.result ≡ 0 = omega arith in
       let E : Ended o (length c.loop-k.s) (p c.args.s.now) (p c.loop-k.s) (p c.loop-k.v) c.loop-k.k =
       (p c.reduce_both-m.new.r, p c.reduce_both-m.new.t, subst₂ (λ i k. Reached o i (p c.args.s.now) (p c.loop-k.s) (p c.reduce_both-m.new.r) (p c.loop-k.v) (p c.reduce_both-m.new.t) c.loop-k.k k) n_is none R) in
-      subst₂ (λ (i : ℕ) (xs : List g.row.F.Denot). MatchOption c.conclude.result (NoInverse o i (p c.args.s.now) × (c.conclude.new.result ≡ xs)) (λ degree. Inverted o i (p c.args.s.now) (p c.conclude.new.result) degree)) (sym n_is) c.loop-k.invariant.0 (c.conclude.ensures.concluded (p c.args.s.now) E);
+      subst₂ (λ (i : ℕ) (xs : List g.row.F.Denot). MatchOption c.conclude.result (NoInverse o i (p c.args.s.now) × (c.conclude.new.res ≡ xs)) (λ degree. Inverted o i (p c.args.s.now) (p c.conclude.new.res) degree)) (sym n_is) c.loop-k.invariant.0 (c.conclude.ensures.concluded (p c.args.s.now) E);
 }
 
 pub reduce_both-k-requires : goal.reduce_both-k-requires
@@ -105,5 +105,5 @@ returns g c = record {
       let none : c.loop-k.k ≡ 0 = omega arith in
       let E : Ended o (length c.loop-k.r) (p c.args.s.now) (p c.loop-k.r) (p c.loop-k.t) c.loop-k.m =
       (p c.loop-k.s, p c.loop-k.v, subst₂ (λ i k. Reached o i (p c.args.s.now) (p c.loop-k.r) (p c.loop-k.s) (p c.loop-k.t) (p c.loop-k.v) c.loop-k.m k) n_is none c.loop-k.invariant.1) in
-      subst₂ (λ (i : ℕ) (xs : List g.row.F.Denot). MatchOption c.conclude-2.result (NoInverse o i (p c.args.s.now) × (c.conclude-2.new.result ≡ xs)) (λ degree. Inverted o i (p c.args.s.now) (p c.conclude-2.new.result) degree)) (sym n_is) c.loop-k.invariant.0 (c.conclude-2.ensures.concluded (p c.args.s.now) E);
+      subst₂ (λ (i : ℕ) (xs : List g.row.F.Denot). MatchOption c.conclude-2.result (NoInverse o i (p c.args.s.now) × (c.conclude-2.new.res ≡ xs)) (λ degree. Inverted o i (p c.args.s.now) (p c.conclude-2.new.res) degree)) (sym n_is) c.loop-k.invariant.0 (c.conclude-2.ensures.concluded (p c.args.s.now) E);
 }

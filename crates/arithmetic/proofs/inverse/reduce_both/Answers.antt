@@ -20,8 +20,8 @@ add_shifted-requires g c = record {
   within = omega (arith, c.requires.lengths, c.row_places.ensures.within);
 }
 
-pub slice-bounds-significant-end : goal.slice-bounds-significant-end
-slice-bounds-significant-end g c = omega (arith, c.loop-n.invariant.0, c.loop-n.invariant.1, c.requires.sizes)
+pub slice_bounds-significant-end : goal.slice_bounds-significant-end
+slice_bounds-significant-end g c = omega (arith, c.loop-n.invariant.0, c.loop-n.invariant.1, c.requires.sizes)
 
 pub loop-n-preserved : goal.loop-n-preserved
 loop-n-preserved g c =
@@ -59,5 +59,5 @@ loop-n-preserved g c =
     let le = size_le o c.significant-n.result (n - 1) (p r₂) size both.0 in
     (omega (arith, inv.0), omega (arith, inv.1), size, both.1)
 
-pub shape-of-r : goal.shape-of-r
-shape-of-r g c = c.loop-n.invariant.1
+pub shape_of-r : goal.shape_of-r
+shape_of-r g c = c.loop-n.invariant.1

@@ -25,6 +25,6 @@ returns g c =
     let step = step_is 65536 n (integers_of f) (integers_of u) (integers_of p) (integers_of q) (integers_of v) first less second in
     record {
       step = step;
-      words = words_are n v (refine n (integers_of f) (integers_of u)) (omega arith) (λ k. omega (arith, c.type-inv.u k)) step;
+      words = words_are n v (refine n (integers_of f) (integers_of u)) (omega arith) (λ k. omega (arith, c.type_inv.u k)) step;
       count = omega (arith, c.multiply_doubled.ensures.count, c.multiply_doubled-2.ensures.count);
     }

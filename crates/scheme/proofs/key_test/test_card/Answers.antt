@@ -12,8 +12,8 @@ use Rattle.scheme.proofs.key_test.test_card.Goals as goal
 
 pub returns-then-card-set : goal.returns-then-card-set
 returns-then-card-set g c =
-    let set = c.in-ok-set.set in
-    let found = c.in-ok-set.ensures.set_or_refusal in
+    let set = c.in_ok-set.set in
+    let found = c.in_ok-set.ensures.set_or_refusal in
     let N = length_of c.args.set in
     let W = width_of c.args.set in
     let card = c.args.card.now in
@@ -25,8 +25,8 @@ returns-then-card-set g c =
 
 pub returns-then-not-all_hold_digits : goal.returns-then-not-all_hold_digits
 returns-then-not-all_hold_digits g c =
-    let set = c.in-ok-set.set in
-    let found = c.in-ok-set.ensures.set_or_refusal in
+    let set = c.in_ok-set.set in
+    let found = c.in_ok-set.ensures.set_or_refusal in
     let N = length_of c.args.set in
     let W = width_of c.args.set in
     let card = c.args.card.now in
@@ -38,27 +38,27 @@ returns-then-not-all_hold_digits g c =
 
 pub test_parts-requires : goal.test_parts-requires
 test_parts-requires g c =
-    let set = c.in-ok-set.set in
+    let set = c.in_ok-set.set in
     let card = c.args.card.now in
-    let split = c.in-ok-parts.ensures.parts_or_refusal.1 in
+    let split = c.in_ok-parts.ensures.parts_or_refusal.1 in
     let digits = sym (tested_bytes set set.n set.width refl refl card) ∙ sym c.all_hold_digits.ensures ∙ c.if-not-all_hold_digits.false in
     record {
       parts = (split.f.long, (split.fp.long, (split.h.long, split.hq.long)));
-      held = held set set.n set.width refl refl card c.in-ok-parts.parts split digits;
+      held = held set set.n set.width refl refl card c.in_ok-parts.parts split digits;
     }
 
 pub returns : goal.returns
 returns g c =
-    let set = c.in-ok-set.set in
-    let found = c.in-ok-set.ensures.set_or_refusal in
+    let set = c.in_ok-set.set in
+    let found = c.in_ok-set.ensures.set_or_refusal in
     let N = length_of c.args.set in
     let W = width_of c.args.set in
     let card = c.args.card.now in
     let rows = g.U.RowUnit.rows c.args.unit.now in
     let en : set.n ≡ N = found.1 in
     let ew : set.width ≡ W = found.2 in
-    let split = c.in-ok-parts.ensures.parts_or_refusal.1 in
-    let same = ap (λ p. polynomial_tests set.n set.width p) (parts_are set N W en ew card c.in-ok-parts.parts split) ∙ ap (λ k. polynomial_tests k set.width (polynomials N W card)) en ∙ ap (λ k. polynomial_tests N k (polynomials N W card)) ew in
+    let split = c.in_ok-parts.ensures.parts_or_refusal.1 in
+    let same = ap (λ p. polynomial_tests set.n set.width p) (parts_are set N W en ew card c.in_ok-parts.parts split) ∙ ap (λ k. polynomial_tests k set.width (polynomials N W card)) en ∙ ap (λ k. polynomial_tests N k (polynomials N W card)) ew in
     let table = test_polynomials c.args.set card found.0 (c.if-card-set.false ∙ card_size set N W en ew) (sym (tested_bytes set N W en ew card) ∙ sym c.all_hold_digits.ensures ∙ c.if-not-all_hold_digits.false)
     (record { answer_is = c.test_parts.ensures.answer ∙ ap outcome same; rows_are = refl }) in
     record { answer = table.answer_is; count = c.test_parts.ensures.count ∙ ap (λ t. raised (cost t) rows) same ∙ ap (λ r. raised r rows) table.rows_are }

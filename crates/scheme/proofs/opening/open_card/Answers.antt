@@ -11,8 +11,8 @@ use Rattle.scheme.proofs.opening.open_card.Goals as goal
 
 pub returns-then-card-set : goal.returns-then-card-set
 returns-then-card-set g c =
-    let set = c.in-ok-set.set in
-    let found = c.in-ok-set.ensures.set_or_refusal in
+    let set = c.in_ok-set.set in
+    let found = c.in_ok-set.ensures.set_or_refusal in
     let N = length_of c.args.set in
     let W = width_of c.args.set in
     let card = c.args.card.now in
@@ -27,8 +27,8 @@ returns-then-card-set g c =
 
 pub returns-then-pair-set : goal.returns-then-pair-set
 returns-then-pair-set g c =
-    let set = c.in-ok-set.set in
-    let found = c.in-ok-set.ensures.set_or_refusal in
+    let set = c.in_ok-set.set in
+    let found = c.in_ok-set.ensures.set_or_refusal in
     let N = length_of c.args.set in
     let W = width_of c.args.set in
     let card = c.args.card.now in
@@ -40,8 +40,8 @@ returns-then-pair-set g c =
 
 pub returns-then-not-all_hold_digits : goal.returns-then-not-all_hold_digits
 returns-then-not-all_hold_digits g c =
-    let set = c.in-ok-set.set in
-    let found = c.in-ok-set.ensures.set_or_refusal in
+    let set = c.in_ok-set.set in
+    let found = c.in_ok-set.ensures.set_or_refusal in
     let N = length_of c.args.set in
     let W = width_of c.args.set in
     let card = c.args.card.now in
@@ -53,20 +53,20 @@ returns-then-not-all_hold_digits g c =
 
 pub open_parts-requires : goal.open_parts-requires
 open_parts-requires g c =
-    let set = c.in-ok-set.set in
+    let set = c.in_ok-set.set in
     let card = c.args.card.now in
-    let split = c.in-ok-parts.ensures.parts_or_refusal.1 in
+    let split = c.in_ok-parts.ensures.parts_or_refusal.1 in
     let digits = sym (tested_bytes set set.n set.width refl refl card) ∙ sym c.all_hold_digits.ensures ∙ c.if-not-all_hold_digits.false in
     record {
       parts = (split.f.long, (split.fp.long, split.hq.long));
-      held = held set set.n set.width refl refl card c.in-ok-parts.parts split digits;
+      held = held set set.n set.width refl refl card c.in_ok-parts.parts split digits;
       records = (c.if-sealed-set.false, c.if-pair-set.false);
     }
 
 pub returns-then-not-open_parts : goal.returns-then-not-open_parts
 returns-then-not-open_parts g c =
-    let set = c.in-ok-set.set in
-    let found = c.in-ok-set.ensures.set_or_refusal in
+    let set = c.in_ok-set.set in
+    let found = c.in_ok-set.ensures.set_or_refusal in
     let N = length_of c.args.set in
     let W = width_of c.args.set in
     let card = c.args.card.now in
@@ -75,8 +75,8 @@ returns-then-not-open_parts g c =
     let ew : set.width ≡ W = found.2 in
     let sealed = c.args.sealed.now in
     let pair = c.args.pair.now in
-    let split = c.in-ok-parts.ensures.parts_or_refusal.1 in
-    let opened = opened_at set N W en ew card c.in-ok-parts.parts split sealed c.open_parts.result pair c.open_parts.new.pair c.open_parts.ensures.opened in
+    let split = c.in_ok-parts.ensures.parts_or_refusal.1 in
+    let opened = opened_at set N W en ew card c.in_ok-parts.parts split sealed c.open_parts.result pair c.open_parts.new.pair c.open_parts.ensures.opened in
     let test = opened_test N W (polynomials N W card).f (polynomials N W card).fp (polynomials N W card).hq (balanced_polynomial N W sealed) c.open_parts.result pair c.open_parts.new.pair opened in
     let table = open_none c.args.set card sealed pair found.0 (c.if-card-set.false ∙ card_size set N W en ew) (c.if-sealed-set.false ∙ word_size set N W en ew) (c.if-pair-set.false ∙ pair_size set N W en ew)
     (sym (tested_bytes set N W en ew card) ∙ sym c.all_hold_digits.ensures ∙ c.if-not-all_hold_digits.false) (sym test ∙ c.if-not-open_parts.true) in
@@ -88,8 +88,8 @@ returns-then-not-open_parts g c =
 
 pub returns : goal.returns
 returns g c =
-    let set = c.in-ok-set.set in
-    let found = c.in-ok-set.ensures.set_or_refusal in
+    let set = c.in_ok-set.set in
+    let found = c.in_ok-set.ensures.set_or_refusal in
     let N = length_of c.args.set in
     let W = width_of c.args.set in
     let card = c.args.card.now in
@@ -98,8 +98,8 @@ returns g c =
     let ew : set.width ≡ W = found.2 in
     let sealed = c.args.sealed.now in
     let pair = c.args.pair.now in
-    let split = c.in-ok-parts.ensures.parts_or_refusal.1 in
-    let opened = opened_at set N W en ew card c.in-ok-parts.parts split sealed c.open_parts.result pair c.open_parts.new.pair c.open_parts.ensures.opened in
+    let split = c.in_ok-parts.ensures.parts_or_refusal.1 in
+    let opened = opened_at set N W en ew card c.in_ok-parts.parts split sealed c.open_parts.result pair c.open_parts.new.pair c.open_parts.ensures.opened in
     let test = opened_test N W (polynomials N W card).f (polynomials N W card).fp (polynomials N W card).hq (balanced_polynomial N W sealed) c.open_parts.result pair c.open_parts.new.pair opened in
     let table = open_pair c.args.set card sealed pair found.0 (c.if-card-set.false ∙ card_size set N W en ew) (c.if-sealed-set.false ∙ word_size set N W en ew) (c.if-pair-set.false ∙ pair_size set N W en ew)
     (sym (tested_bytes set N W en ew card) ∙ sym c.all_hold_digits.ensures ∙ c.if-not-all_hold_digits.false) (sym test ∙ c.if-not-open_parts.false) in

@@ -8,8 +8,8 @@ pub returns : goal.returns
 returns c =
     let coins = c.args.coins.now in
     let out = c.args.out.now in
-    let set = c.in-ok-set.set in
-    let found = c.in-ok-set.ensures.set_or_refusal in
+    let set = c.in_ok-set.set in
+    let found = c.in_ok-set.ensures.set_or_refusal in
     let n : set.n ≡ length_of c.args.set = found.1 in
     let long : length coins ≡ set.n - 1 = c.if-coins-set.false ∙ set.records.2 in
     let room : length out ≡ pair_bytes set.n = c.if-out-set.false ∙ set.records.1 ∙ ap (λ t. 2 * t) set.parts.0 in

@@ -11,14 +11,14 @@ use Rattle.scheme.proofs.sealing.seal_drawn.Goals as goal
 
 pub returns : goal.returns
 returns g c =
-    let set = c.in-ok-set.set in
-    let found = c.in-ok-set.ensures.set_or_refusal in
+    let set = c.in_ok-set.set in
+    let found = c.in_ok-set.ensures.set_or_refusal in
     let N = length_of c.args.set in
     let W = width_of c.args.set in
     let card = c.args.card.now in
     let coins = c.args.coins.now in
-    let split = c.in-ok-parts.ensures.parts_or_refusal.1 in
-    let bytes = c.in-ok-parts.parts.h.bytes.now in
+    let split = c.in_ok-parts.ensures.parts_or_refusal.1 in
+    let bytes = c.in_ok-parts.parts.h.bytes.now in
     let en : set.n ≡ N = found.1 in
     let ew : set.width ≡ W = found.2 in
     let table = sealed_served c.args.set card coins c.args.out.now found.0 (c.if-card-set.false ∙ card_size set N W en ew) (c.if-coins-set.false ∙ coin_size set N W en ew) (c.if-out-set.false ∙ word_size set N W en ew) in
@@ -28,6 +28,6 @@ returns g c =
           c.seal_pair.ensures.output
           ∙ ap (λ k. sealed_record k set.width (balanced_polynomial k set.width bytes) coins) en
           ∙ ap (λ k. sealed_record N k (balanced_polynomial N k bytes) coins) ew
-          ∙ ap (λ bs. sealed_record N W (balanced_polynomial N W bs) coins) (h_is set N W en ew card c.in-ok-parts.parts split);
+          ∙ ap (λ bs. sealed_record N W (balanced_polynomial N W bs) coins) (h_is set N W en ew card c.in_ok-parts.parts split);
       count = some_rows N (g.U.RowUnit.rows c.args.unit.now) en c.seal_pair.ensures.count ∙ ap (λ r. raised r (g.U.RowUnit.rows c.args.unit.now)) table.rows_are;
     }

@@ -7,5 +7,5 @@ pub loop-i-preserved : goal.loop-i-preserved
 loop-i-preserved c =
     let s = c.loop-i in
     let v = c.args.v.now in
-    let fits : get_or v s.i 0 ≤ 65536 = omega (arith, c.type-inv.v s.i) in
+    let fits : get_or v s.i 0 ≤ 65536 = omega (arith, c.type_inv.v s.i) in
     combined_more 65536 (λ a b. a +ℤ neg_ℤ b) c.args.u.now v s.u s.i _ (omega arith) (word_less 65536 (get_or s.u s.i 0) (get_or v s.i 0) fits) s.invariant

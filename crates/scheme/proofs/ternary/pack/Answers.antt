@@ -19,14 +19,14 @@ read c =
 light : (c : goal.After-code) → c.loop-d.weight ≤ 81
 light c = omega (arith, weights c.loop-d.filled c.loop-d.invariant.2)
 
-pub overflow-mul-byte : goal.overflow-mul-byte
-overflow-mul-byte c = let r = (read c).0 in let h = light c in record { fits = omega arith }
+pub overflow_mul-byte : goal.overflow_mul-byte
+overflow_mul-byte c = let r = (read c).0 in let h = light c in record { fits = omega arith }
 
-pub overflow-add-byte : goal.overflow-add-byte
-overflow-add-byte c = let r = (read c).0 in let h = light c in record { fits = omega arith }
+pub overflow_add-byte : goal.overflow_add-byte
+overflow_add-byte c = let r = (read c).0 in let h = light c in record { fits = omega arith }
 
-pub overflow-mul-weight : goal.overflow-mul-weight
-overflow-mul-weight c = let h = light c in record { fits = omega arith }
+pub overflow_mul-weight : goal.overflow_mul-weight
+overflow_mul-weight c = let h = light c in record { fits = omega arith }
 
 pub loop-d-preserved : goal.loop-d-preserved
 loop-d-preserved c =

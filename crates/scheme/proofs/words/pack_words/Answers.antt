@@ -21,8 +21,8 @@ within c = omega (arith, times_more c.args.width c.loop-c.c-index, times_below c
 pub bounds-out-at : goal.bounds-out-at
 bounds-out-at c = within c
 
-pub overflow-add-at : goal.overflow-add-at
-overflow-add-at c = let h = within c in search rules
+pub overflow_add-at : goal.overflow_add-at
+overflow_add-at c = let h = within c in search rules
 
 pub loop-held-preserved : goal.loop-held-preserved
 loop-held-preserved c =

@@ -29,8 +29,8 @@ read c =
     let s = c.loop-held in
     bits_read (2 ^ c.args.width) 8 s.bits s.held s.at c.loop-i.i _ c.args.bytes.now c.loop-i.out (byte c) s.invariant.0 (within c) s.invariant.3
 
-pub overflow-add-at : goal.overflow-add-at
-overflow-add-at c = let h = within c in search rules
+pub overflow_add-at : goal.overflow_add-at
+overflow_add-at c = let h = within c in search rules
 
 pub loop-held-preserved : goal.loop-held-preserved
 loop-held-preserved c = let r = read c in (r.0, omega arith, omega arith, r.1)

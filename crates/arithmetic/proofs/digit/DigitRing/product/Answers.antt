@@ -3,8 +3,8 @@ use Rattle.algebra.specs.Residues.{residue, residues}
 use Rattle.arithmetic.proofs.Codes.{twice_is_minus}
 use Rattle.arithmetic.proofs.digit.DigitRing.product.Goals as goal
 
-pub returns-in-default : goal.returns-in-default
-returns-in-default c = record {
+pub returns-in_default : goal.returns-in_default
+returns-in_default c = record {
   multiplies =
       let b = c.args.other.code in
       let two : ◌≡◌ {A = ℕ} 2 c.args.self.code = omega arith in

@@ -1,22 +1,19 @@
 -- The answers of seal, open, the key test and make, and what is read of a card.
-use Rattle.std.proofs.Common.{◌≡◌, ℕ, zero, suc, ◌+◌, ◌*◌, ◌≤◌, Bool, true, false, not, ◌&&◌, leb, ◌⊎◌, List, [], ◌∷◌, length, take, drop, Ok, Err, Result, sym, refl, ap, ◌∙◌, subst, inl, inr, arith}
+use Rattle.std.proofs.Common.{◌≡◌, ℕ, zero, suc, ◌+◌, ◌*◌, Bool, true, false, not, ◌&&◌, leb, ◌⊎◌, List, [], ◌∷◌, length, take, drop, Ok, Err, Result, refl, ap, ◌∙◌, subst, arith}
 use Rattle.std.proofs.lemmas.List.{take-take, drop-take}
 use Rattle.std.proofs.lemmas.Bool.{and_parts}
 use Rattle.algebra.specs.Decided.{in_T}
 use Rattle.algebra.specs.Polynomials.{Poly}
 use Rattle.algebra.proofs.Deciding.{told_same, ternary_tells}
 use Rattle.scheme.specs.declared.refusal.Refusal.{Refusal}
-use Rattle.scheme.specs.declared.refusal.Refusal.TheVariants.{NoSuchSet, InputLength, OutputLength, TernaryByte, NotInvertible, NoPair}
+use Rattle.scheme.specs.declared.refusal.Refusal.TheVariants.{InputLength, OutputLength, TernaryByte, NoPair}
 use Rattle.scheme.specs.CardPolynomials.{polynomials, stretch, ternary_stretch}
 use Rattle.scheme.specs.KeyTest.{tests, polynomial_tests}
-use Rattle.scheme.specs.Opening.{Opened, opens, found_r, opened_record}
-use Rattle.scheme.specs.Refusals.{left}
-use Rattle.scheme.specs.Steps.{Step, outcome, cost}
-use Rattle.scheme.specs.Sealing.{seals, sealed_record}
-use Rattle.scheme.specs.Sets.{known, length_of, width_of, ternary_bytes, record_bytes, card_bytes, pair_bytes, coin_bytes}
+use Rattle.scheme.specs.Opening.{Opened, opens, found_r}
+use Rattle.scheme.specs.Sealing.{seals}
+use Rattle.scheme.specs.Sets.{known, length_of, width_of, record_bytes, card_bytes, pair_bytes, coin_bytes}
 use Rattle.scheme.specs.TernaryParts.{holds_digits}
-use Rattle.scheme.specs.TernaryPolynomials.{ternary_polynomial}
-use Rattle.scheme.specs.WordPolynomials.{balanced_polynomial, padded_polynomial}
+use Rattle.scheme.specs.WordPolynomials.{balanced_polynomial}
 use Rattle.scheme.proofs.StepAnswers.{Tabled, ends, stops, goes_on, makes_rows, equal, unequal, equal_both, unequal_either}
 
 -- ---- bytes that hold digits

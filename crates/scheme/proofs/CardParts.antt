@@ -1,10 +1,9 @@
 -- The parts of a card, and the polynomials that they hold.
 use Rattle.std.proofs.Common.{◌≡◌, ℕ, ◌+◌, ◌-◌, ◌*◌, Bool, true, List, take, sym, ap, ◌∙◌, subst, arith}
-use Rattle.algebra.specs.Polynomials.{Poly}
 use Rattle.scheme.specs.declared.card.Parts.{Parts}
 use Rattle.scheme.specs.declared.set.ParameterSet.{ParameterSet}
 use Rattle.scheme.specs.Cards.{Split}
-use Rattle.scheme.specs.CardPolynomials.{Polynomials, part_polynomials, polynomials, stretch, ternary_stretch}
+use Rattle.scheme.specs.CardPolynomials.{part_polynomials, polynomials, stretch, ternary_stretch}
 use Rattle.scheme.specs.Opening.{Opened}
 use Rattle.scheme.specs.Sets.{ternary_bytes, record_bytes}
 use Rattle.scheme.specs.TernaryParts.{holds_digits}

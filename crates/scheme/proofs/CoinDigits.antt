@@ -1,8 +1,8 @@
 -- The coin table holds the four-bit rule, and one turn of a draw.
 use Rattle.std.proofs.Common.{◌≡◌, ℕ, zero, suc, ◌+◌, ◌*◌, ◌/◌, ◌%◌, ◌<◌, ◌≤◌, List, [], ◌∷◌, ◌++◌, map, length, get_or, take, drop, set, ℤ, pos, negsuc, ◌+ℤ◌, ◌*ℤ◌, sym, refl, ap, ◌∙◌, append_assoc, arith, length-set}
 use Rattle.std.specs.List.{range_with_len}
-use Rattle.std.proofs.lemmas.List.FromFn.{get_or-map-range_with_len, length-map-range_with_len}
-use Rattle.std.proofs.lemmas.List.{take_more_set, at_drop_more, at_drop_all, append-nil, take_all, get_or-map, length-map}
+use Rattle.std.proofs.lemmas.List.FromFn.{get_or-map-range_with_len}
+use Rattle.std.proofs.lemmas.List.{take_more_set, at_drop_more, at_drop_all, append-nil, take_all}
 use Rattle.arithmetic.specs.Digits.{digit, number}
 use Rattle.arithmetic.specs.declared.digit.Digit.{Digit}
 use Rattle.arithmetic.proofs.Digits.{same_digit}

@@ -1,11 +1,9 @@
 -- Drawn polynomials are in T, and their signs are settled so that they are in T+.
-use Rattle.std.proofs.Common.{◌≡◌, ℕ, zero, suc, ◌+◌, ◌-◌, ◌*◌, ◌/◌, ◌%◌, ◌<◌, ◌≤◌, Bool, true, false, cond, eqb, ◌≢◌, ◌⊎◌, List, [], ◌∷◌, ◌++◌, map, length, get_or, take, drop, set, ℤ, pos, negsuc, ◌+ℤ◌, ◌*ℤ◌, neg_ℤ, nat_abs, ◌≤ℤ◌, sym, refl, ap, ◌∙◌, subst, inl, inr, add-zero, add-one, arith, length-drop, length-take, w8, w32, to_z, of_z, below_more}
+use Rattle.std.proofs.Common.{◌≡◌, ℕ, zero, suc, ◌+◌, ◌-◌, ◌*◌, ◌/◌, ◌%◌, ◌<◌, ◌≤◌, Bool, true, false, cond, eqb, ◌≢◌, List, [], ◌∷◌, length, get_or, take, drop, ℤ, pos, negsuc, ◌+ℤ◌, ◌*ℤ◌, neg_ℤ, nat_abs, ◌≤ℤ◌, sym, refl, ap, ◌∙◌, subst, inl, inr, add-one, arith, length-drop, length-take, w8, w32, to_z, of_z, below_more}
 use mathlib.Core.Path.{fun_ext}
 use borrow.Author.Differences.{ints}
-use lib.Signed.{lt_z}
-use Rattle.std.specs.List.{range_with_len}
-use Rattle.std.proofs.lemmas.List.FromFn.{get_or-map-range_with_len, fill_by_all, length-map-range_with_len}
-use Rattle.std.proofs.lemmas.List.{get_or-append_right, get_or_past, get_or-set_same, get_or-set_other, length-map, length_push, get_or_push, get_or_read}
+use Rattle.std.proofs.lemmas.List.FromFn.{get_or-map-range_with_len, length-map-range_with_len}
+use Rattle.std.proofs.lemmas.List.{get_or_past, length-map, length_push, get_or_push, get_or_read}
 use Rattle.std.proofs.lemmas.Bool.{cases_lt, eq-eqb, ne_eqb}
 use Rattle.algebra.specs.Ring.{integers, sum, sum_by}
 use Rattle.algebra.specs.Ternary.{Ternary, Ternary+, correlation}

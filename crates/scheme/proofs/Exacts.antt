@@ -1,17 +1,16 @@
 -- Open is exact, sealed records open, and cards are taken exactly when they are keys.
-use Rattle.std.proofs.Common.{◌≡◌, ℕ, zero, suc, ◌+◌, ◌-◌, ◌*◌, ◌^◌, ◌<◌, ◌≤◌, Bool, true, false, cond, not, eqb, leb, List, [], ◌∷◌, ◌++◌, length, take, pos, Ok, Err, Result, sym, refl, ap, ◌∙◌, subst, ap₂, arith, lit<, lit≤, length-drop, length-take, pow_pos}
-use lib.Signed.{le_z}
+use Rattle.std.proofs.Common.{◌≡◌, ℕ, zero, suc, ◌+◌, ◌-◌, ◌*◌, ◌^◌, ◌≤◌, Bool, true, false, not, eqb, leb, List, [], ◌∷◌, ◌++◌, length, take, Ok, Err, Result, sym, refl, ap, ◌∙◌, subst, ap₂, arith, lit<, lit≤, length-drop, length-take, pow_pos}
 use Rattle.std.proofs.lemmas.List.{take_at, length_push}
 use Rattle.std.proofs.lemmas.Bool.{and_parts, eqb-true, leb-true}
-use Rattle.algebra.specs.Decided.{Tells, in_T, in_T+, reduces_to_one}
-use Rattle.algebra.specs.Polynomials.{Poly, SameMod, Balanced, InverseMod, times}
+use Rattle.algebra.specs.Decided.{Tells, in_T, in_T+}
+use Rattle.algebra.specs.Polynomials.{Poly, SameMod, times}
 use Rattle.algebra.specs.Ring.{Agree, integers}
-use Rattle.algebra.specs.Scheme.{Key, Encrypts, Opens, Equation, lifting, opened_a, opened_m, opened_r, candidate}
+use Rattle.algebra.specs.Scheme.{Key, Encrypts, Opens, lifting, opened_a, candidate}
 use Rattle.algebra.specs.Sets.{Set}
-use Rattle.algebra.specs.Ternary.{Ternary, Ternary+, correlation}
+use Rattle.algebra.specs.Ternary.{correlation}
 use Rattle.algebra.proofs.CallSteps.{encrypts_class, key_along, made_only}
 use Rattle.algebra.proofs.Cyclic.{cyclic_laws}
-use Rattle.algebra.proofs.Deciding.{told_as, told_by, told_same, ternary_tells, ternary+_tells, correlates_tells, one_tells, equation_tells}
+use Rattle.algebra.proofs.Deciding.{told_as, told_same, ternary_tells, ternary+_tells, correlates_tells, one_tells, equation_tells}
 use Rattle.algebra.proofs.Integers.{integer_laws, mod_laws}
 use Rattle.algebra.proofs.Keys.{making_is, made_is}
 use Rattle.algebra.proofs.Lift.{lifting_is}
@@ -21,11 +20,11 @@ use Rattle.algebra.proofs.Sets.{sets_suffice, some_width}
 use Rattle.arithmetic.specs.Digits.{digit, coefficients}
 use Rattle.scheme.specs.declared.refusal.Refusal.{Refusal}
 use Rattle.scheme.specs.declared.refusal.Refusal.TheVariants.{NoPair}
-use Rattle.scheme.specs.CardPolynomials.{IsKey, Polynomials, polynomials, ternary_stretch}
+use Rattle.scheme.specs.CardPolynomials.{Polynomials, polynomials, ternary_stretch}
 use Rattle.scheme.specs.Coins.{coin_list, drawn, first_half, second_half}
-use Rattle.scheme.specs.Exactness.{IsKeyOf, EncryptsTo, OpensExactly, OpensTo, SealedExactly, TestedExactly, TestsTell}
-use Rattle.scheme.specs.KeyTest.{tests, polynomial_tests}
-use Rattle.scheme.specs.Making.{CardOf, MakeAnswer, MakeOutput, card_record, drawn_f, drawn_g}
+use Rattle.scheme.specs.Exactness.{IsKeyOf, EncryptsTo, OpensExactly, SealedExactly, TestedExactly, TestsTell}
+use Rattle.scheme.specs.KeyTest.{tests}
+use Rattle.scheme.specs.Making.{CardOf, MakeAnswer, MakeOutput, card_record, drawn_f, drawn_g, makes}
 use Rattle.scheme.specs.Opening.{found_m, found_r, opened_record, opens}
 use Rattle.scheme.specs.Pairs.{pair_record}
 use Rattle.scheme.specs.Refusals.{left}
@@ -39,9 +38,9 @@ use Rattle.scheme.proofs.CallAnswers.{open_none, open_pair, test_polynomials}
 use Rattle.scheme.proofs.DrawnSigns.{first_ternary, second_ternary, first_correlates, second_correlates, length_coins}
 use Rattle.scheme.proofs.ReadBack.{ternary_back, ternary_record_same, balanced_back, padded_back, word_record_same, f_part, fp_part, h_part, hq_part, card_long, card_held, word_long}
 use Rattle.scheme.proofs.Records.{ended_ternary, ternary_record_is}
-use Rattle.scheme.proofs.Testing.{all_pass, some_bits}
-use Rattle.scheme.proofs.StepAnswers.{Tabled}
-use Rattle.scheme.proofs.Verdicts.{passed, same_length}
+use Rattle.scheme.proofs.Testing.{all_pass}
+use Rattle.scheme.proofs.StepAnswers.{AllPassed, all_passed}
+use Rattle.scheme.proofs.Verdicts.{same_length}
 use Rattle.scheme.proofs.WordPolynomials.{balanced_sum}
 
 -- the facts of the sets that there are
@@ -234,28 +233,22 @@ tested_exactly set card answer ea = record {
       let n = length_of set in
       let w = width_of set in
       let p = polynomials n w card in
-      let p0 = passed _ _ _ (sym e ∙ ea) in
-      let p1 = passed _ _ _ p0.1 in
-      let p2 = passed _ _ _ p1.1 in
-      let p3 = passed _ _ _ p2.1 in
-      let p4 = passed _ _ _ p3.1 in
-      let p5 = passed _ _ _ p4.1 in
-      let p6 = passed _ _ _ p5.1 in
-      let exists = is_true (known set) p0.0 in
+      let passed : AllPassed (tests set card) = all_passed (tests set card) (sym e ∙ ea) in
+      let exists = is_true (known set) passed.0 in
       let tell = tests_tell set card exists in
-      let g = tell.some_g.holds (is_true _ p5.0) in
+      let g = tell.some_g.holds (is_true _ passed.1.1.1.1.1.0) in
       record {
         exists = exists;
         key = record {
-          long = same_length (length card) (card_bytes n w) p1.0;
-          digits = is_true (holds_digits (ternary_stretch n card)) p2.0;
+          long = same_length (length card) (card_bytes n w) passed.1.0;
+          digits = is_true (holds_digits (ternary_stretch n card)) passed.1.1.0;
           g = g.0;
           key = record {
-            f_small = tell.f_small.holds (is_true _ p3.0);
+            f_small = tell.f_small.holds (is_true _ passed.1.1.1.0);
             g_small = g.1;
-            fp_inverse = tell.fp_inverse.holds (is_true _ p4.0);
+            fp_inverse = tell.fp_inverse.holds (is_true _ passed.1.1.1.1.0);
             equation = g.2;
-            hq_inverse = tell.hq_inverse.holds (is_true _ p6.0);
+            hq_inverse = tell.hq_inverse.holds (is_true _ passed.1.1.1.1.1.1.0);
           };
         };
       };
@@ -327,11 +320,9 @@ pub sealed_records_open : (set : ℕ) (card coins before out : List ℕ) (answer
 sealed_records_open set card coins before out answer ea eo e =
     let n = length_of set in
     let w = width_of set in
-    let p0 = passed _ _ _ (sym e ∙ ea) in
-    let p1 = passed _ _ _ p0.1 in
-    let p2 = passed _ _ _ p1.1 in
-    let exists = is_true (known set) p0.0 in
-    let lengths = and_parts (eqb (length card) (card_bytes n w)) (eqb (length coins) (coin_bytes n)) (is_true _ p1.0) in
+    let passed : AllPassed (seals set card coins before) = all_passed (seals set card coins before) (sym e ∙ ea) in
+    let exists = is_true (known set) passed.0 in
+    let lengths = and_parts (eqb (length card) (card_bytes n w)) (eqb (length coins) (coin_bytes n)) (is_true _ passed.1.0) in
     let lk : length coins ≡ coin_bytes n = eqb-true (length coins) (coin_bytes n) lengths.1 in
     let written : out ≡ sealed_record n w (polynomials n w card).h coins = eo ∙ ap (λ a. left a (sealed_record n w (polynomials n w card).h coins) before) e in
     let f = known_facts set exists in
@@ -341,9 +332,8 @@ sealed_records_open set card coins before out answer ea eo e =
 module _ (set : ℕ) (coins before out : List ℕ) (answer : Result (Unit {0}) Refusal) (said : MakeAnswer set coins before answer) (kept : MakeOutput set coins answer before out) where
   served_facts : answer ≡ Ok tt → (known set ≡ true) × (length coins ≡ coin_bytes (length_of set))
   served_facts e =
-      let p0 = passed _ _ _ (sym e ∙ said.is) in
-      let p1 = passed _ _ _ p0.1 in
-      (is_true (known set) p0.0, same_length (length coins) (coin_bytes (length_of set)) p1.0)
+      let passed : AllPassed (makes set coins before said.absent) = all_passed (makes set coins before said.absent) (sym e ∙ said.is) in
+      (is_true (known set) passed.0, same_length (length coins) (coin_bytes (length_of set)) passed.1.0)
 
   pub made_cards_are_keys : answer ≡ Ok tt → IsKeyOf set out
   made_cards_are_keys e = let f = served_facts e in made_key set coins out f.0 f.1 (kept.made e)

@@ -1,8 +1,7 @@
 -- What making works out on lists: inverses that are found or absent, the public key, and the card.
-use Rattle.std.proofs.Common.{◌≡◌, ℕ, ◌+◌, ◌-◌, ◌*◌, ◌%◌, ◌^◌, ◌<◌, ◌≤◌, Bool, true, false, not, List, length, get_or, pos, is_some, Some, None, Ok, Err, Option, Result, sym, refl, ap, ◌∙◌, subst, inl, inr, arith}
+use Rattle.std.proofs.Common.{◌≡◌, ℕ, ◌-◌, ◌*◌, ◌^◌, ◌<◌, ◌≤◌, Bool, true, false, not, List, length, get_or, pos, is_some, Some, None, Ok, Err, Option, Result, sym, refl, ap, ◌∙◌, subst, inl, inr, arith}
 use Rattle.algebra.specs.Polynomials.{Poly, SameMod, InverseMod, NoInverseMod, times, Φ1, scale, refine_four}
 use Rattle.algebra.specs.Radix.{Under}
-use Rattle.algebra.specs.Scheme.{Makes, Unmakable, public_key}
 use Rattle.algebra.specs.Sets.{Set}
 use Rattle.algebra.specs.Ternary.{Ternary}
 use Rattle.algebra.proofs.CallSteps.{narrowed, public_is, makable}

@@ -1,26 +1,24 @@
 -- What is read from the record of a polynomial is that polynomial.
 use Rattle.std.proofs.Common.{◌≡◌, ℕ, zero, suc, ◌+◌, ◌-◌, ◌*◌, ◌/◌, ◌%◌, ◌^◌, ◌<◌, ◌≤◌, true, ◌&&◌, leb, List, [], ◌∷◌, ◌++◌, map, length, get_or, take, drop, ℤ, pos, negsuc, nat_abs, sym, refl, ap, ◌∙◌, subst, inl, inr, mod-eq_of_lt, arith, pow_pos}
-use borrow.Author.Differences.{ints}
 use Rattle.std.specs.List.{range_with_len}
 use Rattle.std.proofs.lemmas.List.FromFn.{get_or-map-range_with_len, length-map-range_with_len, take-map-range_with_len}
 use Rattle.std.proofs.lemmas.List.{get_or_append_left, get_or_push, take_at, drop_at, length-append}
 use Rattle.std.proofs.lemmas.Bool.{cases_lt, le-leb}
 use Rattle.algebra.specs.Polynomials.{Poly, SameMod, Balanced, as_word}
 use Rattle.algebra.specs.Radix.{Under}
-use Rattle.algebra.specs.Ring.{Agree, Differ, integers}
+use Rattle.algebra.specs.Ring.{Agree, integers}
 use Rattle.algebra.specs.Ternary.{Ternary}
 use Rattle.algebra.proofs.Classes.{as_word_is, as_word_below}
-use Rattle.algebra.proofs.Cyclic.{cyclic_laws}
 use Rattle.algebra.proofs.Integers.{mod_laws, equal_mod}
 use Rattle.algebra.proofs.Polynomials.{balanced_same}
 use Rattle.arithmetic.specs.Digits.{digit, coefficients, number, sign}
 use Rattle.arithmetic.specs.Products.{integers_of}
 use Rattle.arithmetic.specs.declared.digit.Digit.{Digit}
-use Rattle.scheme.specs.CardPolynomials.{polynomials, stretch, ternary_stretch}
+use Rattle.scheme.specs.CardPolynomials.{stretch, ternary_stretch}
 use Rattle.scheme.specs.Making.{card_record}
 use Rattle.scheme.specs.Sets.{ternary_bytes, record_bytes, card_bytes}
 use Rattle.scheme.specs.TernaryParts.{holds_digits, ternary_digits, ternary_part}
-use Rattle.scheme.specs.TernaryPolynomials.{ended_digits, ternary_polynomial, ternary_record, pair_of}
+use Rattle.scheme.specs.TernaryPolynomials.{ended_digits, ternary_polynomial, ternary_record}
 use Rattle.scheme.specs.WordParts.{word_part, part_words}
 use Rattle.scheme.specs.WordPolynomials.{balanced, padded, balanced_polynomial, padded_polynomial, word_record}
 use Rattle.scheme.proofs.TernaryDigits.{holds_each, reads_back}

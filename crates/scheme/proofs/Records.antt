@@ -1,5 +1,5 @@
 -- Polynomials in records: what is written of lists of digits and words, and what is read.
-use Rattle.std.proofs.Common.{◌≡◌, ℕ, ◌+◌, ◌-◌, ◌*◌, ◌/◌, ◌%◌, ◌^◌, ◌<◌, ◌≤◌, Bool, true, false, List, [], ◌∷◌, ◌++◌, map, length, get_or, take, set, pos, nat_abs, sym, refl, ap, ◌∙◌, subst, mod-eq_of_lt, arith, length-take, pow_pos}
+use Rattle.std.proofs.Common.{◌≡◌, ℕ, ◌-◌, ◌%◌, ◌^◌, ◌<◌, ◌≤◌, Bool, true, false, List, [], ◌∷◌, ◌++◌, map, length, get_or, take, set, pos, sym, refl, ap, ◌∙◌, subst, mod-eq_of_lt, arith, length-take, pow_pos}
 use borrow.Rule.Slice.PartMut.{post_of}
 use Rattle.std.specs.List.{range_with_len}
 use Rattle.std.proofs.lemmas.List.FromFn.{get_or-map-range_with_len, length-map-range_with_len}

@@ -1,5 +1,5 @@
 -- Counts of rows after products.
-use Rattle.std.proofs.Common.{◌≡◌, ℕ, ◌+◌, ◌*◌, ◌^◌, ◌<◌, ◌≤◌, min, arith}
+use Rattle.std.proofs.Common.{◌≡◌, ℕ, ◌+◌, ◌*◌, ◌^◌, ◌<◌, ◌≤◌, arith}
 use Rattle.arithmetic.specs.Rows.{raised}
 
 pub no_rows : (rows : ℕ) → rows < 2 ^ 64 → rows ≡ raised 0 rows

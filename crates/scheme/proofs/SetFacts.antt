@@ -1,5 +1,5 @@
 -- What the type of a parameter set says, as lemmas ask for it.
-use Rattle.std.proofs.Common.{◌≡◌, ℕ, zero, suc, ◌+◌, ◌-◌, ◌*◌, ◌/◌, ◌%◌, ◌^◌, ◌<◌, ◌≤◌, sym, ap, ◌∙◌, subst, arith}
+use Rattle.std.proofs.Common.{◌≡◌, ℕ, zero, suc, ◌+◌, ◌-◌, ◌*◌, ◌/◌, ◌^◌, ◌<◌, ◌≤◌, sym, ap, ◌∙◌, subst, arith}
 use Rattle.algebra.specs.Sets.{Set}
 use Rattle.algebra.proofs.Sets.{sets_suffice}
 use Rattle.scheme.specs.declared.set.ParameterSet.{ParameterSet}

@@ -25,6 +25,19 @@ goes_on e true rest p t = absurd (let z : ◌≡◌ {A = ℕ} 0 1 = cc in omega 
 pub makes_rows : {answer : Result (Unit {0}) Refusal} {rows : ℕ} (k : ℕ) (rest : List Step) → Tabled answer rows rest → Tabled answer (k + rows) (make_rows k ∷ rest)
 makes_rows k rest t = record { answer_is = t.answer_is; rows_are = ap (λ r. k + r) t.rows_are }
 
+-- no reason for a refusal holds
+abbrev pub AllPassed : List Step → Type 0
+AllPassed [] = Unit {0}
+AllPassed (stop e b ∷ rest) = (b ≡ false) × AllPassed rest
+AllPassed (make_rows k ∷ rest) = AllPassed rest
+
+-- a call that is served went past each test
+pub all_passed : (steps : List Step) → Ok tt ≡ outcome steps → AllPassed steps
+all_passed [] p = tt
+all_passed (stop e true ∷ rest) p = absurd (let z : ◌≡◌ {A = ℕ} 0 1 = cc in omega arith)
+all_passed (stop e false ∷ rest) p = (refl, all_passed rest p)
+all_passed (make_rows k ∷ rest) p = all_passed rest p
+
 -- tests of lengths
 pub unequal : (a b : ℕ) → (a ≡ b → ⊥) → not (eqb a b) ≡ true
 unequal a b h = ap not (ne_eqb a b h)

@@ -1,6 +1,6 @@
 -- Steps of the loops that regroup digits five to a byte, and the laws of ternary parts.
-use Rattle.std.proofs.Common.{◌≡◌, ℕ, zero, suc, ◌+◌, ◌-◌, ◌*◌, ◌/◌, ◌%◌, ◌^◌, ◌<◌, ◌≤◌, Bool, true, false, ◌&&◌, leb, ◌⊎◌, List, [], ◌∷◌, map, length, get_or, drop, set, sym, refl, ap, ◌∙◌, subst, inl, inr, mod-lt, mod-eq_of_lt, arith, length-set}
-use native.Mathlib.Nat.{div-eq_of_lt, pow-le-pow_right, pow-succ', mod-one, mod-mod, zero-mod, zero-div, pow-zero}
+use Rattle.std.proofs.Common.{◌≡◌, ℕ, zero, suc, ◌+◌, ◌-◌, ◌*◌, ◌/◌, ◌%◌, ◌^◌, ◌<◌, ◌≤◌, true, false, ◌&&◌, leb, List, [], ◌∷◌, map, length, get_or, drop, set, sym, refl, ap, ◌∙◌, mod-eq_of_lt, arith}
+use native.Mathlib.Nat.{div-eq_of_lt, pow-le-pow_right, pow-succ', mod-mod, pow-zero}
 use Rattle.std.proofs.lemmas.List.{get_or-map, length-map, map-set, get_or_past, at_drop_more}
 use Rattle.std.proofs.lemmas.Nat.{mul-add-lt}
 use Rattle.std.proofs.lemmas.Bool.{leb-true, le-leb, lt-leb, and_parts}

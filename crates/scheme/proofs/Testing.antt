@@ -1,5 +1,5 @@
 -- The answers of the key test.
-use Rattle.std.proofs.Common.{◌≡◌, ℕ, ◌+◌, ◌-◌, ◌*◌, ◌%◌, ◌^◌, ◌<◌, ◌≤◌, Bool, true, false, not, List, length, pos, Ok, Err, sym, refl, ap, ◌∙◌, subst, arith, lit<}
+use Rattle.std.proofs.Common.{◌≡◌, ℕ, ◌+◌, ◌-◌, ◌^◌, ◌<◌, ◌≤◌, Bool, true, false, not, List, pos, Ok, Err, ap, ◌∙◌, subst, arith, lit<}
 use native.Mathlib.Nat.{pow-le-pow_right}
 use lib.Signed.{le_z}
 use Rattle.algebra.specs.Decided.{Tells, in_T+, reduces_to_one}

@@ -1,21 +1,21 @@
 -- What seal, open, the key test and make work out on lists of digits and words.
-use Rattle.std.proofs.Common.{◌≡◌, ℕ, ◌+◌, ◌-◌, ◌*◌, ◌%◌, ◌^◌, ◌<◌, ◌≤◌, Bool, true, false, ◌⊎◌, List, length, get_or, pos, ◌*ℤ◌, nat_abs, ◌≤ℤ◌, Result, sym, refl, ap, ◌∙◌, subst, inl, inr, arith, lit<, pow_pos}
+use Rattle.std.proofs.Common.{◌≡◌, ℕ, ◌-◌, ◌*◌, ◌^◌, ◌<◌, ◌≤◌, Bool, true, false, ◌⊎◌, List, length, get_or, pos, ◌*ℤ◌, nat_abs, ◌≤ℤ◌, Result, sym, refl, ap, ◌∙◌, subst, inl, inr, arith, lit<, pow_pos}
 use native.Mathlib.Nat.{pow-le-pow_right}
 use Rattle.algebra.specs.Decided.{Tells}
 use Rattle.algebra.specs.Radix.{Under}
-use Rattle.algebra.specs.Ring.{Agree, Differ, integers, divided, power, reduce}
+use Rattle.algebra.specs.Ring.{Agree, integers, divided, power, reduce}
 use Rattle.algebra.specs.Scheme.{candidate, lifting, opened_a, opened_m, opened_r}
 use Rattle.algebra.specs.Ternary.{Ternary, Ternary+, correlation}
 use Rattle.algebra.specs.Polynomials.{Poly, SameMod, Balanced, InverseMod, times, Φ1, plus, less, centre}
 use Rattle.algebra.proofs.CallSteps.{sealed_is, a_is, m_is, r_is, reduced_ternary, candidate_words, candidate_ternary, correlation_same, narrowed}
 use Rattle.algebra.proofs.Cyclic.{cyclic_laws}
-use Rattle.algebra.proofs.Deciding.{told_as, told_both, centred_one, one_centred, one_small}
+use Rattle.algebra.proofs.Deciding.{told_as, centred_one, one_centred, one_small}
 use Rattle.algebra.proofs.Integers.{integer_laws, mod_laws, equal_mod}
 use Rattle.algebra.proofs.Phi.{reduced_laws}
 use Rattle.algebra.proofs.Polynomials.{agree_mod, mod_phi}
 use Rattle.algebra.proofs.Stands.{signed_is}
 use Rattle.arithmetic.specs.Digits.{coefficients, digit}
-use Rattle.arithmetic.specs.Products.{Product, Sized, cyclic_product, integers_of}
+use Rattle.arithmetic.specs.Products.{Product, cyclic_product, integers_of}
 use Rattle.arithmetic.specs.Rows.{raised}
 use Rattle.arithmetic.specs.declared.digit.Digit.{Digit}
 use Rattle.arithmetic.specs.declared.rows.RowRefusal.{RowRefusal}

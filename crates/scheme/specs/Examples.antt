@@ -1,6 +1,6 @@
 -- Worked values at set 1, where n is 5.
-use Rattle.std.specs.Prelude.{◌≡◌, ℕ, List, [], ◌∷◌, map, ℤ, pos, negsuc}
-use Rattle.arithmetic.specs.Digits.{digit, number, sign}
+use Rattle.std.specs.Prelude.{◌≡◌, [], ◌∷◌, map, pos, negsuc}
+use Rattle.arithmetic.specs.Digits.{number, sign}
 use Rattle.scheme.specs.Coins.{coin}
 use Rattle.scheme.specs.Pairs.{pair_record}
 use Rattle.scheme.specs.Signs.{settled}

@@ -1,5 +1,5 @@
 -- Polynomials of words, of which a word part holds all coefficients but the last.
-use Rattle.std.specs.Prelude.{◌≡◌, ℕ, ◌-◌, ◌^◌, List, [], ◌∷◌, ◌++◌, map, length, ℤ, pos, neg_ℤ, sum, slice_index_or}
+use Rattle.std.specs.Prelude.{◌≡◌, ℕ, ◌-◌, ◌^◌, List, [], ◌∷◌, ◌++◌, map, length, pos, neg_ℤ, sum, slice_index_or}
 use Rattle.std.specs.List.{range_with_len}
 use Rattle.algebra.specs.Polynomials.{Poly, Balanced, as_word}
 use Rattle.arithmetic.specs.Products.{integers_of}

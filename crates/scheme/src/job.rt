@@ -70,7 +70,7 @@ impl<'a> Job<'a> {
         ensures coins_end_as_zeros { self.exit.0.now ≡ cleared self.entry.coins.now }
         ensures answer { result ≡ outcome (seals set card.now self.entry.coins.now out.old) }
         ensures output { out.new ≡ left result (sealed_record (length_of set) (width_of set) (polynomials (length_of set) (width_of set) card.now).h self.entry.coins.now) out.old }
-        ensures count { rows unit.new ≡ raised (cost (seals set card.now self.entry.coins.now out.old)) (rows unit.old) }
+        ensures count { U.rows unit.new ≡ raised (cost (seals set card.now self.entry.coins.now out.old)) (U.rows unit.old) }
         ensures sealed_records_open { result ≡ Ok tt → SealedExactly set card.now self.entry.coins.now out.new }
     {
         let Job { coins } = self;
@@ -83,7 +83,7 @@ impl<'a> Job<'a> {
         ensures coins_end_as_zeros { self.exit.0.now ≡ cleared self.entry.coins.now }
         ensures answer { MakeAnswer set self.entry.coins.now out.old result }
         ensures output { MakeOutput set self.entry.coins.now result out.old out.new }
-        ensures count { rows unit.old ≤ rows unit.new }
+        ensures count { U.rows unit.old ≤ U.rows unit.new }
         ensures made_cards_are_keys { result ≡ Ok tt → IsKeyOf set out.new }
         ensures no_other_card { result ≡ Ok tt → (card : List ℕ) → CardOf (length_of set) (width_of set) self.entry.coins.now card → card ≡ out.new }
     {

@@ -43,7 +43,7 @@ fn is_inverse_modulo_3<U: RowUnit>(
     requires digits { (length fp.now ≡ length f.now) × (length d.old ≡ length f.now) }
     requires room { (length x.old ≡ length f.now) × ((length y.old ≡ length f.now) × ((length z.old ≡ length f.now) × (length doubled.old ≡ 2 * length f.now))) }
     ensures answer { Tells result (InverseMod 3 (length f.now) (coefficients f.now) (coefficients fp.now)) }
-    ensures count { rows unit.new ≡ raised (length f.now) (rows unit.old) }
+    ensures count { U.rows unit.new ≡ raised (length f.now) (U.rows unit.old) }
 {
     code_words(f, x);
     code_words(fp, y);
@@ -69,7 +69,7 @@ fn has_key_equation<U: RowUnit>(
     requires digits { (length f.now ≡ length h.now) × (length g.old ≡ length h.now) }
     requires room { (length x.old ≡ length h.now) × ((length y.old ≡ length h.now) × (length doubled.old ≡ 2 * length h.now)) }
     ensures answer { Tells result (Ternary+ (length h.now) (candidate (2 ^ width) 43691 (times (length h.now) (integers_of h.now) (coefficients f.now)))) }
-    ensures count { rows unit.new ≡ raised (length h.now) (rows unit.old) }
+    ensures count { U.rows unit.new ≡ raised (length h.now) (U.rows unit.old) }
 {
     signed_words(f, x);
     let _ = multiply(unit, h, x, doubled, y);
@@ -95,7 +95,7 @@ fn is_inverse_modulo_q<U: RowUnit>(
     requires words { length hq.now ≡ length h.now }
     requires room { (length d.old ≡ length h.now) × ((length x.old ≡ length h.now) × (length doubled.old ≡ 2 * length h.now)) }
     ensures answer { Tells result (InverseMod (2 ^ width) (length h.now) (integers_of h.now) (integers_of hq.now)) }
-    ensures count { rows unit.new ≡ raised (length h.now) (rows unit.old) }
+    ensures count { U.rows unit.new ≡ raised (length h.now) (U.rows unit.old) }
 {
     let _ = multiply(unit, h, hq, doubled, x);
     if !read_reduced(width, x, d) {
@@ -126,7 +126,7 @@ fn test_over<U: RowUnit>(
     requires digits { (length k.old ≡ set.n) × ((length l.old ≡ set.n) × (length d.old ≡ set.n)) }
     requires words { (length c.old ≡ set.n) × ((length x.old ≡ set.n) × ((length y.old ≡ set.n) × ((length z.old ≡ set.n) × (length doubled.old ≡ 2 * set.n)))) }
     ensures answer { result ≡ outcome (polynomial_tests set.n set.width (part_polynomials set.n set.width f.now fp.now h.now hq.now)) }
-    ensures count { rows unit.new ≡ raised (cost (polynomial_tests set.n set.width (part_polynomials set.n set.width f.now fp.now h.now hq.now))) (rows unit.old) }
+    ensures count { U.rows unit.new ≡ raised (cost (polynomial_tests set.n set.width (part_polynomials set.n set.width f.now fp.now h.now hq.now))) (U.rows unit.old) }
 {
     read_ternary(f, k);
     if !correlates(k) {
@@ -159,7 +159,7 @@ fn test_parts<U: RowUnit>(
     requires parts { (length f.now ≡ set.ternary) × ((length fp.now ≡ set.ternary) × ((length h.now ≡ set.word) × (length hq.now ≡ set.word))) }
     requires held { (holds_digits f.now ≡ true) × (holds_digits fp.now ≡ true) }
     ensures answer { result ≡ outcome (polynomial_tests set.n set.width (part_polynomials set.n set.width f.now fp.now h.now hq.now)) }
-    ensures count { rows unit.new ≡ raised (cost (polynomial_tests set.n set.width (part_polynomials set.n set.width f.now fp.now h.now hq.now))) (rows unit.old) }
+    ensures count { U.rows unit.new ≡ raised (cost (polynomial_tests set.n set.width (part_polynomials set.n set.width f.now fp.now h.now hq.now))) (U.rows unit.old) }
 {
     let n = set.n;
     let mut k = [Digit::ZERO; LONGEST];
@@ -191,7 +191,7 @@ fn test_parts<U: RowUnit>(
 // Tests whether a card is a key of a set.
 fn test_card<U: RowUnit>(set: u8, card: &[u8], unit: &mut U) -> Result<(), Refusal>
     ensures answer { result ≡ outcome (tests set card.now) }
-    ensures count { rows unit.new ≡ raised (cost (tests set card.now)) (rows unit.old) }
+    ensures count { U.rows unit.new ≡ raised (cost (tests set card.now)) (U.rows unit.old) }
 {
     let set = ParameterSet::from_number(set)?;
     if card.len() != set.card {
@@ -216,7 +216,7 @@ fn test_card<U: RowUnit>(set: u8, card: &[u8], unit: &mut U) -> Result<(), Refus
 // Tests whether a card is a key.
 pub fn test_key<U: RowUnit>(set: u8, card: &[u8], unit: &mut U) -> Result<(), Refusal>
     ensures answer { result ≡ outcome (tests set card.now) }
-    ensures count { rows unit.new ≡ raised (cost (tests set card.now)) (rows unit.old) }
+    ensures count { U.rows unit.new ≡ raised (cost (tests set card.now)) (U.rows unit.old) }
     ensures taken_exactly_when_a_key { TestedExactly set card.now result }
     ensures tests_tell { known set ≡ true → TestsTell (length_of set) (width_of set) (polynomials (length_of set) (width_of set) card.now) }
 {

@@ -64,7 +64,7 @@ fn make_public<U: RowUnit>(
     requires room { (length g.now ≡ length f.now) × ((length h.old ≡ length f.now) × ((length x.old ≡ length f.now) × ((length y.old ≡ length f.now) × (length doubled.old ≡ 2 * length f.now)))) }
     ensures made { result ≡ true → Published (length f.now) width (coefficients f.now) (coefficients g.now) h.new }
     ensures none { result ≡ false → NoInverseMod 2 (length f.now) (coefficients f.now) }
-    ensures count { rows unit.old ≤ rows unit.new }
+    ensures count { U.rows unit.old ≤ U.rows unit.new }
 {
     signed_words(f, x);
     if inverse_of_words(unit, width, x, y).is_none() {
@@ -100,7 +100,7 @@ fn make_over<U: RowUnit>(
     requires digits { (length r.old ≡ length f.now) × ((length s.old ≡ length f.now) × ((length t.old ≡ length f.now) × (length v.old ≡ length f.now))) }
     requires words { (length x.old ≡ length f.now) × ((length y.old ≡ length f.now) × (length doubled.old ≡ 2 * length f.now)) }
     ensures polynomials { WorkedOut (length f.now) width (coefficients f.now) (coefficients g.now) result fp.new h.new hq.new }
-    ensures count { rows unit.old ≤ rows unit.new }
+    ensures count { U.rows unit.old ≤ U.rows unit.new }
 {
     if !invert_modulo_3(f, fp, r, s, t, v) {
         return false;
@@ -160,7 +160,7 @@ fn make_card_over<U: RowUnit>(
     requires words { (length h.old ≡ set.n) × ((length hq.old ≡ set.n) × ((length x.old ≡ set.n) × ((length y.old ≡ set.n) × (length doubled.old ≡ 2 * set.n)))) }
     ensures made { result ≡ true → CardOf set.n set.width coins.now out.new }
     ensures none { result ≡ false → NoCard set.n set.width coins.now × (out.new ≡ out.old) }
-    ensures count { rows unit.old ≤ rows unit.new }
+    ensures count { U.rows unit.old ≤ U.rows unit.new }
 {
     draw_settled(set, coins, f, g);
     if !make_over(unit, set.width, f, g, fp, h, hq, r, s, t, v, x, y, doubled) {
@@ -176,7 +176,7 @@ fn make_card<U: RowUnit>(unit: &mut U, set: ParameterSet, coins: &[u8], out: &mu
     requires card { length out.old ≡ set.card }
     ensures made { result ≡ true → CardOf set.n set.width coins.now out.new }
     ensures none { result ≡ false → NoCard set.n set.width coins.now × (out.new ≡ out.old) }
-    ensures count { rows unit.old ≤ rows unit.new }
+    ensures count { U.rows unit.old ≤ U.rows unit.new }
 {
     let n = set.n;
     let mut f = [Digit::ZERO; LONGEST];
@@ -220,7 +220,7 @@ pub(crate) fn make_drawn<U: RowUnit>(
 ) -> Result<(), Refusal>
     ensures answer { MakeAnswer set coins.now out.old result }
     ensures output { MakeOutput set coins.now result out.old out.new }
-    ensures count { rows unit.old ≤ rows unit.new }
+    ensures count { U.rows unit.old ≤ U.rows unit.new }
 {
     let set = ParameterSet::from_number(set)?;
     if coins.len() != set.coins {

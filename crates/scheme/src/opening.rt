@@ -48,7 +48,7 @@ fn find_m<U: RowUnit>(
     requires last { Ternary (length c.now) (coefficients fp.now) }
     requires room { (length x.old ≡ length c.now) × ((length y.old ≡ length c.now) × ((length z.old ≡ length c.now) × (length doubled.old ≡ 2 * length c.now))) }
     ensures message { Agree integers (length c.now) (coefficients m.new) (opened_m (length c.now) (coefficients fp.now) (opened_a (length c.now) (2 ^ width) (coefficients f.now) (integers_of c.now))) }
-    ensures count { rows unit.new ≡ raised (2 * length c.now) (rows unit.old) }
+    ensures count { U.rows unit.new ≡ raised (2 * length c.now) (U.rows unit.old) }
 {
     signed_words(f, x);
     let _ = multiply(unit, c, x, doubled, y);
@@ -79,7 +79,7 @@ fn find_r<U: RowUnit>(
     requires room { (length s.old ≡ length c.old) × ((length x.old ≡ length c.old) × ((length y.old ≡ length c.old) × (length doubled.old ≡ 2 * length c.old))) }
     ensures answer { Tells result (Ternary (length c.old) (opened_r (length c.old) (2 ^ width) (integers_of hq.now) (integers_of c.old) (lifting (length c.old) (coefficients m.now)))) }
     ensures factor { result ≡ true → Agree integers (length c.old) (coefficients r.new) (opened_r (length c.old) (2 ^ width) (integers_of hq.now) (integers_of c.old) (lifting (length c.old) (coefficients m.now))) }
-    ensures count { rows unit.new ≡ raised (length c.old) (rows unit.old) }
+    ensures count { U.rows unit.new ≡ raised (length c.old) (U.rows unit.old) }
 {
     lift(m, s);
     times_phi1_words(s, x, y);
@@ -113,7 +113,7 @@ fn open_over<U: RowUnit>(
     requires digits { (length k.old ≡ set.n) × ((length l.old ≡ set.n) × (length m.old ≡ set.n)) }
     requires words { (length c.old ≡ set.n) × ((length x.old ≡ set.n) × ((length y.old ≡ set.n) × ((length z.old ≡ set.n) × (length doubled.old ≡ 2 * set.n)))) }
     ensures opened { Opened set.n set.width (ternary_polynomial set.n f.now) (ternary_polynomial set.n fp.now) (padded_polynomial set.n set.width hq.now) (balanced_polynomial set.n set.width sealed.now) result pair.old pair.new }
-    ensures count { rows unit.new ≡ raised (3 * set.n) (rows unit.old) }
+    ensures count { U.rows unit.new ≡ raised (3 * set.n) (U.rows unit.old) }
 {
     read_ternary(f, k);
     read_ternary(fp, l);
@@ -142,7 +142,7 @@ fn open_parts<U: RowUnit>(
     requires held { (holds_digits f.now ≡ true) × (holds_digits fp.now ≡ true) }
     requires records { (length sealed.now ≡ set.word) × (length pair.old ≡ set.pair) }
     ensures opened { Opened set.n set.width (ternary_polynomial set.n f.now) (ternary_polynomial set.n fp.now) (padded_polynomial set.n set.width hq.now) (balanced_polynomial set.n set.width sealed.now) result pair.old pair.new }
-    ensures count { rows unit.new ≡ raised (3 * set.n) (rows unit.old) }
+    ensures count { U.rows unit.new ≡ raised (3 * set.n) (U.rows unit.old) }
 {
     let n = set.n;
     let mut k = [Digit::ZERO; LONGEST];
@@ -182,7 +182,7 @@ fn open_card<U: RowUnit>(
 ) -> Result<(), Refusal>
     ensures answer { result ≡ outcome (opens set card.now sealed.now pair.old) }
     ensures output { pair.new ≡ left result (opened_record (length_of set) (width_of set) card.now sealed.now) pair.old }
-    ensures count { rows unit.new ≡ raised (cost (opens set card.now sealed.now pair.old)) (rows unit.old) }
+    ensures count { U.rows unit.new ≡ raised (cost (opens set card.now sealed.now pair.old)) (U.rows unit.old) }
 {
     let set = ParameterSet::from_number(set)?;
     if card.len() != set.card || sealed.len() != set.word {
@@ -221,7 +221,7 @@ pub fn open_record<U: RowUnit>(
 ) -> Result<(), Refusal>
     ensures answer { result ≡ outcome (opens set card.now sealed.now pair.old) }
     ensures output { pair.new ≡ left result (opened_record (length_of set) (width_of set) card.now sealed.now) pair.old }
-    ensures count { rows unit.new ≡ raised (cost (opens set card.now sealed.now pair.old)) (rows unit.old) }
+    ensures count { U.rows unit.new ≡ raised (cost (opens set card.now sealed.now pair.old)) (U.rows unit.old) }
     ensures no_pair_exactly_when_none_encrypts { IsKeyOf set card.now → length sealed.now ≡ record_bytes (length_of set) (width_of set) → length pair.old ≡ pair_bytes (length_of set) → OpensExactly set card.now sealed.now result pair.new }
 {
     open_card(set, card, sealed, pair, unit)

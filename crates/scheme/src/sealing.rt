@@ -38,7 +38,7 @@ fn encrypt<U: RowUnit>(
     requires polynomials { (length m.now ≡ length r.now) × ((length h.now ≡ length r.now) × (length c.old ≡ length r.now)) }
     requires room { (length s.old ≡ length r.now) × ((length x.old ≡ length r.now) × ((length y.old ≡ length r.now) × (length doubled.old ≡ 2 * length r.now))) }
     ensures ciphertext { SameMod 65536 (length r.now) (integers_of c.new) (encrypted (length r.now) (integers_of h.now) (coefficients r.now) (coefficients m.now)) }
-    ensures count { rows unit.new ≡ raised (length r.now) (rows unit.old) }
+    ensures count { U.rows unit.new ≡ raised (length r.now) (U.rows unit.old) }
 {
     signed_words(r, x);
     let _ = multiply(unit, x, h, doubled, c);
@@ -67,7 +67,7 @@ fn seal_over<U: RowUnit>(
     requires digits { (length r.old ≡ set.n) × ((length m.old ≡ set.n) × (length s.old ≡ set.n)) }
     requires words { (length key.old ≡ set.n) × ((length c.old ≡ set.n) × ((length x.old ≡ set.n) × ((length y.old ≡ set.n) × (length doubled.old ≡ 2 * set.n)))) }
     ensures output { out.new ≡ sealed_record set.n set.width (balanced_polynomial set.n set.width h.now) coins.now }
-    ensures count { rows unit.new ≡ raised set.n (rows unit.old) }
+    ensures count { U.rows unit.new ≡ raised set.n (U.rows unit.old) }
 {
     draw_both(set, coins, r, m);
     read_balanced(set.width, h, key);
@@ -79,7 +79,7 @@ fn seal_over<U: RowUnit>(
 fn seal_pair<U: RowUnit>(unit: &mut U, set: ParameterSet, h: &[u8], coins: &[u8], out: &mut [u8])
     requires records { (length h.now ≡ set.word) × ((length coins.now ≡ set.coins) × (length out.old ≡ set.word)) }
     ensures output { out.new ≡ sealed_record set.n set.width (balanced_polynomial set.n set.width h.now) coins.now }
-    ensures count { rows unit.new ≡ raised set.n (rows unit.old) }
+    ensures count { U.rows unit.new ≡ raised set.n (U.rows unit.old) }
 {
     let n = set.n;
     let mut r = [Digit::ZERO; LONGEST];
@@ -117,7 +117,7 @@ pub(crate) fn seal_drawn<U: RowUnit>(
 ) -> Result<(), Refusal>
     ensures answer { result ≡ outcome (seals set card.now coins.now out.old) }
     ensures output { out.new ≡ left result (sealed_record (length_of set) (width_of set) (polynomials (length_of set) (width_of set) card.now).h coins.now) out.old }
-    ensures count { rows unit.new ≡ raised (cost (seals set card.now coins.now out.old)) (rows unit.old) }
+    ensures count { U.rows unit.new ≡ raised (cost (seals set card.now coins.now out.old)) (U.rows unit.old) }
 {
     let set = ParameterSet::from_number(set)?;
     if card.len() != set.card || coins.len() != set.coins {

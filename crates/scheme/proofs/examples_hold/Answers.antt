@@ -1,7 +1,7 @@
 use Rattle.std.proofs.Common.{refl}
 use Rattle.algebra.specs.Radix.{digits, numeral}
 use Rattle.algebra.specs.Ring.{sum_by}
-use Rattle.scheme.specs.Examples.{CoinHalves, SettledSigns, PairOfCoins}
+use Rattle.scheme.specs.Examples.{SettledSigns, PairOfCoins}
 use Rattle.scheme.proofs.examples_hold.Goals as goal
 
 settled_signs : SettledSigns

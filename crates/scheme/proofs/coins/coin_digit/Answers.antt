@@ -1,4 +1,4 @@
-use Rattle.std.proofs.Common.{◌≡◌, pos, ap, ◌∙◌, arith, w8, to_z, of_z}
+use Rattle.std.proofs.Common.{pos, ap, ◌∙◌, arith, w8, to_z, of_z}
 use Rattle.std.proofs.lemmas.List.FromFn.{get_or-map-range_with_len}
 use Rattle.arithmetic.specs.Digits.{number, sign}
 use Rattle.arithmetic.proofs.Digits.{sign_number, byte_number}

@@ -1,4 +1,4 @@
-use Rattle.std.proofs.Common.{◌≡◌, ◌/◌, ◌%◌, sym, subst, arith}
+use Rattle.std.proofs.Common.{◌/◌, ◌%◌, sym, subst, arith}
 use Rattle.scheme.specs.Coins.{ByTheRule}
 use Rattle.scheme.proofs.CoinDigits.{by_the_rule}
 use Rattle.scheme.proofs.coins.coin_digits.Goals as goal

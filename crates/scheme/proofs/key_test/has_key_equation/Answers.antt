@@ -1,4 +1,4 @@
-use Rattle.std.proofs.Common.{◌≡◌, length, pos, ◌≤ℤ◌, sym, subst, arith}
+use Rattle.std.proofs.Common.{length, pos, ◌≤ℤ◌, sym, subst, arith}
 use Rattle.algebra.specs.Decided.{Tells}
 use Rattle.algebra.specs.Ternary.{correlation}
 use Rattle.algebra.proofs.Deciding.{correlates_tells}

@@ -1,7 +1,7 @@
-use Rattle.std.proofs.Common.{◌≡◌, length, arith}
+use Rattle.std.proofs.Common.{length, arith}
 use Rattle.algebra.specs.Ring.{integers, reduce}
 use Rattle.arithmetic.specs.Products.{integers_of}
-use Rattle.scheme.proofs.Working.{Multiplies, Reads, multiplies, q_refused, q_told}
+use Rattle.scheme.proofs.Working.{Reads, multiplies, q_refused, q_told}
 use Rattle.scheme.proofs.key_test.is_inverse_modulo_q.Goals as goal
 
 pub returns-then-not-read_reduced : goal.returns-then-not-read_reduced

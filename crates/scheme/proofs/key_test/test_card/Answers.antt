@@ -1,4 +1,4 @@
-use Rattle.std.proofs.Common.{◌≡◌, sym, refl, ap, ◌∙◌, subst}
+use Rattle.std.proofs.Common.{◌≡◌, sym, refl, ap, ◌∙◌}
 use Rattle.arithmetic.specs.Rows.{raised}
 use Rattle.scheme.specs.CardPolynomials.{polynomials}
 use Rattle.scheme.specs.KeyTest.{polynomial_tests}

@@ -1,4 +1,4 @@
-use Rattle.std.proofs.Common.{◌≡◌, ◌-◌, ◌%◌, ◌^◌, length, sym, ap, ◌∙◌, subst, arith, lit<}
+use Rattle.std.proofs.Common.{◌≡◌, ◌^◌, length, sym, ap, ◌∙◌, subst, arith, lit<}
 use Rattle.algebra.specs.Polynomials.{Balanced}
 use Rattle.arithmetic.specs.Digits.{coefficients}
 use Rattle.arithmetic.specs.Products.{integers_of}

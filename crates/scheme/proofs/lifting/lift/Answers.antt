@@ -9,7 +9,7 @@ pub loop-i-preserved : goal.loop-i-preserved
 loop-i-preserved c =
     let s = c.loop-i in
     lifted_more c.args.m.now s.s s.last.0 s.i c.balancing_shift-shift.result c.index-m-i.result c.sum.result c.negation.result _
-    c.loop-i-test.true (omega arith) c.balancing_shift-shift.ensures c.index-m-i.is c.sum.ensures.adds c.negation.ensures.negates c.sum_last.ensures.adds s.invariant
+    c.loop-i-test.true (omega arith) c.balancing_shift-shift.ensures c.index-m-i.is c.sum.ensures.adds c.negation.ensures.negates c.sum-last.ensures.adds s.invariant
 
 pub returns : goal.returns
 returns c =

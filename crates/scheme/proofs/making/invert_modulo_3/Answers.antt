@@ -7,7 +7,7 @@ use Rattle.scheme.proofs.making.invert_modulo_3.Goals as goal
 pub returns : goal.returns
 returns c =
     let f = c.args.f.now in
-    let u = c.inverse_mod_phi.new.result in
+    let u = c.inverse_mod_phi.new.res in
     let x = c.inverse_mod_phi.result in
     let n = length f in
     let same : length u ≡ n = omega arith in

@@ -1,4 +1,4 @@
-use Rattle.std.proofs.Common.{◌≡◌, ℕ, ◌^◌, ◌≤◌, true, false, length, sym, ◌∙◌, subst, arith}
+use Rattle.std.proofs.Common.{length, sym, subst, arith}
 use Rattle.arithmetic.specs.Digits.{coefficients}
 use Rattle.arithmetic.specs.WordInverses.{Taken}
 use Rattle.scheme.specs.Making.{WorkedOut}
@@ -24,7 +24,7 @@ returns g c =
     let n = length c.args.f.now in
     let w = c.args.width in
     let h = c.make_public.new.h in
-    let hq = c.inverse_of_words.new.result in
+    let hq = c.inverse_of_words.new.res in
     let key = c.make_public.ensures.made c.if-not-make_public.false in
     let sized : Taken w h c.args.hq.now = record { some = c.requires.width.0; narrow = c.requires.width.1; long = omega (arith, c.make_public.auto.h); few = omega (arith, c.make_public.auto.h); room = omega (arith, c.make_public.auto.h) } in
     let done = concluded w n (coefficients c.args.f.now) (coefficients c.args.g.now) c.invert_modulo_3.new.fp h c.args.hq.now hq _ _ c.inverse_of_words.result

@@ -1,4 +1,4 @@
-use Rattle.std.proofs.Common.{◌≡◌, ◌-◌, ◌^◌, ◌++◌, length, take, ◌∙◌, subst, ap₂, arith, length-take, rules}
+use Rattle.std.proofs.Common.{◌^◌, ◌++◌, length, ◌∙◌, ap₂, arith, length-take, rules}
 use Rattle.std.proofs.lemmas.List.{places}
 use Rattle.algebra.proofs.Cyclic.{cyclic_laws}
 use Rattle.algebra.proofs.Integers.{mod_laws}

@@ -1,4 +1,4 @@
-use Rattle.std.proofs.Common.{◌≡◌, ◌-◌, ◌%◌, ◌^◌, length, sym, ap, ◌∙◌, subst, arith}
+use Rattle.std.proofs.Common.{◌≡◌, ◌%◌, length, sym, ap, ◌∙◌, subst, arith}
 use Rattle.algebra.specs.Ternary.{Ternary}
 use Rattle.arithmetic.specs.Digits.{coefficients}
 use Rattle.scheme.proofs.Records.{none_opened, pair_opened}

@@ -1,4 +1,4 @@
-use Rattle.std.proofs.Common.{◌≡◌, ◌+◌, ◌-◌, ◌*◌, ◌/◌, length, sym, ap, ◌∙◌, subst}
+use Rattle.std.proofs.Common.{◌≡◌, ◌-◌, ◌*◌, length, sym, ap, ◌∙◌, subst}
 use Rattle.scheme.specs.Pairs.{pair_record, HoldsPair}
 use Rattle.scheme.specs.Sets.{length_of, coin_bytes, pair_bytes}
 use Rattle.scheme.proofs.PairRecords.{holds_pair, pairs_served}

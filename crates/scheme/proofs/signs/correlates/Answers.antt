@@ -1,5 +1,4 @@
-use Rattle.std.proofs.Common.{pos, ap, ◌∙◌, arith, w32, SFits, to_z, of_z, rules}
-use borrow.Author.Differences.{ints}
+use Rattle.std.proofs.Common.{pos, ap, ◌∙◌, w32, SFits, rules}
 use lib.Signed.{le_z}
 use Rattle.std.proofs.lemmas.Int.{to_z-of_z}
 use Rattle.scheme.proofs.signs.correlates.Goals as goal

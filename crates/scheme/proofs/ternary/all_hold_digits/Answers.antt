@@ -1,4 +1,4 @@
-use Rattle.std.proofs.Common.{◌≡◌, sym, refl, ◌∙◌, arith}
+use Rattle.std.proofs.Common.{sym, refl, ◌∙◌}
 use Rattle.std.proofs.lemmas.List.{at_drop_all}
 use Rattle.scheme.specs.TernaryParts.{holds_digits}
 use Rattle.scheme.proofs.TernaryDigits.{test_more, test_fails}

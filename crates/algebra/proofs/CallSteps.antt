@@ -1,14 +1,14 @@
 -- What seal, open, the key test and make work out step by step, over polynomials of words and digits.
-use Rattle.std.proofs.Common.{◌≡◌, ℕ, suc, ◌+◌, ◌-◌, ◌*◌, ◌%◌, ◌^◌, ◌<◌, ◌≤◌, ◌⊎◌, [], ◌∷◌, pos, ◌+ℤ◌, ◌*ℤ◌, neg_ℤ, nat_abs, sym, ap, ◌∙◌, subst, ap₂, inl, inr, arith, lit<, pow_pos}
-use Rattle.algebra.specs.Ring.{Agree, Differ, integers, ones, reduce, divided, scalar}
+use Rattle.std.proofs.Common.{◌≡◌, ℕ, suc, ◌-◌, ◌^◌, ◌<◌, ◌≤◌, [], ◌∷◌, pos, ◌+ℤ◌, ◌*ℤ◌, neg_ℤ, nat_abs, ap, ◌∙◌, ap₂, inl, inr, arith, lit<, pow_pos}
+use Rattle.algebra.specs.Ring.{Agree, Differ, integers, ones, reduce, divided}
 use Rattle.algebra.specs.Ternary.{Ternary, correlation}
 use Rattle.algebra.specs.Polynomials.{Poly, times, Φ1, scale, plus, less, SameMod, SamePhi, Balanced, InverseMod, centre}
 use Rattle.algebra.specs.Scheme.{lifting, shift, opened_a, opened_m, opened_r, candidate, public_key, Makes, Unmakable, Encrypts, Key}
 use Rattle.algebra.proofs.Derived.{mul_left, mul_right}
-use Rattle.algebra.proofs.Solver.{x, one, nat, ◌⊞◌, ◌⊠◌, ◌⊟◌, minus, follows}
+use Rattle.algebra.proofs.Solver.{x, one, nat, ◌⊞◌, ◌⊠◌, minus, follows}
 use Rattle.algebra.proofs.Integers.{integer_laws, mod_laws, equal_mod}
 use Rattle.algebra.proofs.Classes.{centre_same, centre_zero}
-use Rattle.algebra.proofs.Cyclic.{cyclic_laws, scale_is}
+use Rattle.algebra.proofs.Cyclic.{cyclic_laws}
 use Rattle.algebra.proofs.Divide.{divided_last}
 use Rattle.algebra.proofs.Keys.{sum_class}
 use Rattle.algebra.proofs.Phi.{phi1_ones, reduce_last, reduced_laws}

@@ -1,12 +1,12 @@
 -- What the tests of polynomials tell.
-use Rattle.std.proofs.Common.{◌≡◌, ℕ, zero, suc, ◌+◌, ◌-◌, ◌*◌, ◌%◌, ◌<◌, ◌≤◌, Bool, true, false, ◌&&◌, T, eqb, leb, ℤ, pos, ◌+ℤ◌, neg_ℤ, nat_abs, ◌≤ℤ◌, sym, refl, ap, ◌∙◌, subst, arith}
+use Rattle.std.proofs.Common.{◌≡◌, ℕ, zero, suc, ◌-◌, ◌*◌, ◌%◌, ◌<◌, ◌≤◌, Bool, true, false, ◌&&◌, T, eqb, leb, ℤ, pos, ◌+ℤ◌, neg_ℤ, nat_abs, ◌≤ℤ◌, sym, refl, ap, ◌∙◌, subst, arith}
 use native.Mathlib.Decide.{ℕ_discrete}
 use lib.IntN.{+ℤ_idr}
 use lib.Signed.{le_z, le_z_yes}
 use borrow.Author.Differences.{ints}
 use Rattle.std.proofs.lemmas.Bool.{leb-true, le-leb, eqb-true, eq-eqb, and_parts}
 use Rattle.algebra.specs.Decided.{Tells, every, in_T, in_T+, reduces_to_one}
-use Rattle.algebra.specs.Ring.{Agree, Differ, integers, power, reduce}
+use Rattle.algebra.specs.Ring.{Agree, integers, power, reduce}
 use Rattle.algebra.specs.Ternary.{Ternary, Ternary+, correlation}
 use Rattle.algebra.specs.Polynomials.{Poly, SameMod, SamePhi, Balanced, times, as_word, centre}
 use Rattle.algebra.specs.Scheme.{Equation, candidate}
@@ -15,7 +15,6 @@ use Rattle.algebra.proofs.Cyclic.{cyclic_laws, power_at, power_off}
 use Rattle.algebra.proofs.Integers.{integer_laws, mod_laws, equal_mod, close}
 use Rattle.algebra.proofs.Keys.{candidate_is}
 use Rattle.algebra.proofs.Phi.{reduce_same, same_reduce}
-use Rattle.algebra.proofs.Polynomials.{agree_mod}
 
 -- two tests that tell the same are equal
 pub told_same : {P : Type 0} (a b : Bool) → Tells a P → Tells b P → a ≡ b

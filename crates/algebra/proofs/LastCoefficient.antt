@@ -1,5 +1,5 @@
 -- The last coefficient of a polynomial of words, where a record holds the others.
-use Rattle.std.proofs.Common.{◌≡◌, ℕ, zero, suc, ◌+◌, ◌-◌, ◌%◌, ◌^◌, ◌<◌, ◌≤◌, List, [], ◌∷◌, ◌++◌, length, get_or, take, drop, set, ℤ, pos, ◌+ℤ◌, neg_ℤ, sym, refl, ap, ◌∙◌, subst, inl, inr, mod-eq_of_lt, add-one, arith, length-take, pow_pos}
+use Rattle.std.proofs.Common.{◌≡◌, ℕ, zero, suc, ◌+◌, ◌-◌, ◌%◌, ◌^◌, ◌<◌, ◌≤◌, List, [], ◌∷◌, ◌++◌, length, get_or, take, drop, set, pos, ◌+ℤ◌, neg_ℤ, sym, refl, ap, ◌∙◌, subst, inl, inr, mod-eq_of_lt, add-one, arith, length-take, pow_pos}
 use native.Mathlib.Nat.{mod-mod}
 use borrow.Rule.Slice.PartMut.{post_of}
 use Rattle.std.specs.List as Shelf

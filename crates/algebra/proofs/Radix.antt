@@ -1,5 +1,5 @@
 -- Laws of digits in any base, and the two steps of a loop that regroups digits.
-use Rattle.std.proofs.Common.{◌≡◌, ℕ, zero, suc, ◌+◌, ◌-◌, ◌*◌, ◌/◌, ◌%◌, ◌^◌, ◌<◌, ◌≤◌, List, [], ◌∷◌, ◌++◌, map, length, get_or, take, drop, set, sym, refl, ap, ◌∙◌, subst, ap₂, append_assoc, lt_of_lt_of_le, add-zero, add_assoc, mod-lt, mod-eq_of_lt, mul_assoc, mul_comm, mul-le-mul_left, mul-zero, zero-add, mul-suc, mul-add, mul_right_comm, arith, length-set}
+use Rattle.std.proofs.Common.{◌≡◌, ℕ, zero, suc, ◌+◌, ◌-◌, ◌*◌, ◌/◌, ◌%◌, ◌^◌, ◌<◌, ◌≤◌, List, [], ◌∷◌, ◌++◌, map, length, get_or, take, drop, set, sym, refl, ap, ◌∙◌, ap₂, append_assoc, lt_of_lt_of_le, mod-lt, mod-eq_of_lt, mul_assoc, mul_comm, mul-le-mul_left, zero-add, mul-suc, mul-add, arith, length-set}
 use native.Mathlib.Nat.{mod-mod, pow-zero, pow-succ', mod-one, add-mul-mod_self_left, add-mul-div_left, div-eq_of_lt, one-le-pow}
 use lib.Arith.{mod-mul}
 use Rattle.std.proofs.lemmas.List.{take_more_set, at_drop_more, at_drop_all, take_all, append-nil}

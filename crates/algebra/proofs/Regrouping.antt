@@ -1,12 +1,11 @@
 -- Regrouping digits of one base into digits of another keeps each digit.
-use Rattle.std.proofs.Common.{◌≡◌, ℕ, zero, suc, ◌+◌, ◌-◌, ◌*◌, ◌/◌, ◌%◌, ◌^◌, ◌<◌, ◌≤◌, ◌⊎◌, List, [], ◌∷◌, map, length, get_or, take, drop, set, sym, refl, ap, ◌∙◌, subst, inl, inr, lt_of_lt_of_le, le_of_suc-le-suc, not-suc-le-zero, mod-lt, mod-eq_of_lt, mul_assoc, mul_comm, pow-suc, zero-add, mul-suc, arith, pow-add}
-use native.Mathlib.Nat.{mod-one, mod-mod, div-eq_of_lt, div-div-eq-div-mul, zero-div, zero-mod, add-mul-div_left, add-mul-mod_self_left, add-mul-mod_self_right, pow-zero, pow-succ', one-le-pow, pow-le-pow_right, div-add-mod}
-use lib.Arith.{mod-mul}
-use Rattle.std.proofs.lemmas.List.{at_drop_more, at_drop_all, get_or_past, get_or-map, length-map, ext_get_or}
+use Rattle.std.proofs.Common.{◌≡◌, ℕ, zero, suc, ◌+◌, ◌-◌, ◌*◌, ◌/◌, ◌%◌, ◌^◌, ◌<◌, ◌≤◌, List, [], ◌∷◌, map, length, get_or, drop, sym, refl, ap, ◌∙◌, subst, inl, inr, lt_of_lt_of_le, le_of_suc-le-suc, not-suc-le-zero, mod-lt, mod-eq_of_lt, mul_comm, pow-suc, zero-add, mul-suc, arith, pow-add}
+use native.Mathlib.Nat.{mod-one, mod-mod, div-eq_of_lt, div-div-eq-div-mul, zero-div, zero-mod, add-mul-div_left, add-mul-mod_self_left, pow-zero, pow-succ', one-le-pow, pow-le-pow_right, div-add-mod}
+use Rattle.std.proofs.lemmas.List.{at_drop_more, at_drop_all, get_or_past}
 use Rattle.std.proofs.lemmas.Bool.{cases_lt}
 use Rattle.std.proofs.lemmas.Nat.{le-div}
 use Rattle.algebra.specs.Radix.{numeral, digits, digit_at, Under}
-use Rattle.algebra.proofs.Radix.{mod_product, numeral_digits, digits_numeral, numeral_lt, length_digits, there_and_back, back_and_there}
+use Rattle.algebra.proofs.Radix.{mod_product, numeral_digits, digits_numeral, numeral_lt, length_digits, there_and_back}
 
 pub pow_mul : (b q n : ℕ) → (b ^ q) ^ n ≡ b ^ (q * n)
 pow_mul b q zero = pow-zero (b ^ q) ∙ sym (ap (λ e. b ^ e) (omega arith) ∙ pow-zero b)

@@ -1,5 +1,5 @@
 -- What Euclid's method keeps, and what it shows in the end.
-use Rattle.std.proofs.Common.{◌≡◌, ℕ, suc, ◌+◌, ◌-◌, sym, ap, ◌∙◌, arith}
+use Rattle.std.proofs.Common.{◌≡◌, ℕ, suc, ◌+◌, sym, ap, ◌∙◌, arith}
 use Rattle.algebra.specs.Exact.{Ops, Laws}
 use Rattle.euclid.specs.Series.{polynomials, Below}
 use Rattle.euclid.specs.Inverses.{Finite, Inverse, phi}

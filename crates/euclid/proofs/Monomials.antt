@@ -1,5 +1,5 @@
 -- Products with one power of x, and bounds of degrees.
-use Rattle.std.proofs.Common.{◌≡◌, ℕ, zero, suc, ◌+◌, ◌-◌, ◌<◌, refl, ap, ◌∙◌, arith}
+use Rattle.std.proofs.Common.{◌≡◌, ℕ, zero, suc, ◌+◌, ◌<◌, refl, ap, ◌∙◌, arith}
 use mathlib.Core.Path.{fun_ext}
 use Rattle.algebra.specs.Exact.{Ops, Laws}
 use Rattle.euclid.specs.Series.{product_at, monomial, polynomials, Below}

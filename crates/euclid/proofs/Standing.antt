@@ -1,5 +1,5 @@
 -- Lists of elements of which each stands for a number modulo m, as polynomials over the integers.
-use Rattle.std.proofs.Common.{◌≡◌, ℕ, ◌%◌, ◌<◌, ◌≤◌, List, length, get_or, pos, sym, ap, ◌∙◌, arith}
+use Rattle.std.proofs.Common.{ℕ, ◌<◌, ◌≤◌, List, length, get_or, pos, ap, arith}
 use Rattle.algebra.specs.Ring.{Differ, integers}
 use Rattle.algebra.specs.Residues.{residue, residues, residue_laws}
 use Rattle.algebra.specs.Polynomials.{Poly, SameMod}

@@ -5,7 +5,7 @@ use Rattle.std.proofs.lemmas.Bool.{cases_lt}
 use Rattle.algebra.specs.Ring.{Agree, sum, conv, power, reduced, reduce}
 use Rattle.algebra.specs.Exact.{Ops, Laws, exact}
 use Rattle.algebra.specs.Series.{plain}
-use Rattle.algebra.specs.Polynomials.{Poly, SameMod, InverseMod, NoInverseMod}
+use Rattle.algebra.specs.Polynomials.{SameMod, InverseMod, NoInverseMod}
 use Rattle.algebra.specs.Stands.{Stands, numbers}
 use Rattle.algebra.proofs.Derived.{neg_o}
 use Rattle.algebra.proofs.Cyclic.{cyclic_laws, power_at, power_off}

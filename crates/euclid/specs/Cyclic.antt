@@ -1,5 +1,5 @@
 -- The cyclic product, where x^n counts as 1, and reduction modulo 1 + x + .. + x^(n - 1).
-use Rattle.std.specs.Prelude.{ℕ, zero, suc, ◌+◌, ◌-◌}
+use Rattle.std.specs.Prelude.{ℕ, zero, suc, ◌+◌}
 use Rattle.algebra.specs.Exact.{Ops}
 use Rattle.euclid.specs.Series.{monomial, polynomials, less_last}
 

@@ -1,8 +1,18 @@
-// Files: coins that are read once and then zeroed, and output that never replaces a file.
+// Files: coins that are read once and then zeroed, input that is read so far as any set has it, and output that never replaces a file.
 use crate::trouble::{Trouble, of_file};
 use std::fs::{File, OpenOptions};
 use std::io::{ErrorKind, Read, Write};
 use std::{fs, io};
+
+// The longest input of all sets is a card of set 3; with one byte more a file is known to be too long.
+const MOST: u64 = 2557;
+
+// What is lost where a call comes to nothing.
+#[derive(Clone, Copy)]
+pub(crate) enum AtStake {
+    Coins,
+    Nothing,
+}
 
 // A coin file that is open for reading, and once more for overwriting: coins that could not be zeroed are never read.
 #[derive(Drop)]
@@ -14,10 +24,7 @@ pub struct CoinFile {
 // Opens a coin file and touches nothing of it.
 pub(crate) fn open_coins(rt: &HostRuntime, path: &str) -> Result<CoinFile, Trouble> {
     let heap = rt.alloc();
-    let reader = match File::open(rt, path) {
-        Ok(file) => file,
-        Err(e) => return Err(of_file(heap, path, why_not_read(e.kind()))),
-    };
+    let reader = open(rt, path)?;
     if !plain(&reader)? {
         return Err(of_file(
             heap,
@@ -35,6 +42,13 @@ pub(crate) fn open_coins(rt: &HostRuntime, path: &str) -> Result<CoinFile, Troub
     }
 }
 
+fn open(rt: &HostRuntime, path: &str) -> Result<File, Trouble> {
+    match File::open(rt, path) {
+        Ok(file) => Ok(file),
+        Err(e) => Err(of_file(rt.alloc(), path, why_not_read(e.kind()))),
+    }
+}
+
 fn plain(file: &File) -> io::Result<bool> {
     Ok(file.metadata()?.is_file())
 }
@@ -44,6 +58,16 @@ fn why_not_read(kind: ErrorKind) -> &'static str {
         ErrorKind::NotFound => "there is no such file",
         ErrorKind::PermissionDenied => "you may not read this file",
         _ => "cannot be read",
+    }
+}
+
+// Reads a card or a record. Of a file that is longer than any set has them only the start is read, which is too long as well.
+pub(crate) fn read_input(rt: &HostRuntime, path: &str) -> Result<Vec<u8>, Trouble> {
+    let file = open(rt, path)?;
+    let mut bytes = Vec::new(rt.alloc());
+    match file.take(MOST).read_to_end(&mut bytes) {
+        Ok(_) => Ok(bytes),
+        Err(_) => Err(of_file(rt.alloc(), path, "cannot be read")),
     }
 }
 
@@ -84,27 +108,27 @@ fn write_and_flush(file: &mut File, bytes: &[u8]) -> io::Result<()> {
 }
 
 // Makes an empty file where none is.
-pub(crate) fn reserve(rt: &HostRuntime, path: &str) -> Result<File, Trouble> {
-    let heap = rt.alloc();
+pub(crate) fn reserve(rt: &HostRuntime, path: &str, at_stake: AtStake) -> Result<File, Trouble> {
     match File::create_new(rt, path) {
         Ok(file) => Ok(file),
-        Err(e) => Err(match e.kind() {
-            ErrorKind::AlreadyExists => of_file(
-                heap,
-                path,
+        Err(e) => Err(of_file(rt.alloc(), path, why_not_made(e.kind(), at_stake))),
+    }
+}
+
+fn why_not_made(kind: ErrorKind, at_stake: AtStake) -> &'static str {
+    match at_stake {
+        AtStake::Coins => match kind {
+            ErrorKind::AlreadyExists =>
                 "is there already and stays as it is; give the output a new name. The coins were not touched",
-            ),
-            ErrorKind::NotFound => of_file(
-                heap,
-                path,
-                "its folder is not there; the coins were not touched",
-            ),
-            _ => of_file(
-                heap,
-                path,
-                "cannot be made here; the coins were not touched",
-            ),
-        }),
+            ErrorKind::NotFound => "its folder is not there; the coins were not touched",
+            _ => "cannot be made here; the coins were not touched",
+        },
+        AtStake::Nothing => match kind {
+            ErrorKind::AlreadyExists =>
+                "is there already and stays as it is; give the output a new name",
+            ErrorKind::NotFound => "its folder is not there",
+            _ => "cannot be made here",
+        },
     }
 }
 
@@ -114,6 +138,7 @@ pub(crate) fn fill(
     mut file: File,
     path: &str,
     bytes: &[u8],
+    at_stake: AtStake,
 ) -> Result<(), Trouble> {
     match write_and_flush(&mut file, bytes) {
         Ok(()) => Ok(()),
@@ -122,7 +147,11 @@ pub(crate) fn fill(
             Err(of_file(
                 rt.alloc(),
                 path,
-                "could not be written and was taken away again; the coins are spent, draw new ones",
+                match at_stake {
+                    AtStake::Coins =>
+                        "could not be written and was taken away again; the coins are spent, draw new ones",
+                    AtStake::Nothing => "could not be written and was taken away again",
+                },
             ))
         }
     }

@@ -2,8 +2,8 @@
 // what each gives. The cases and what they must give are made by tools/reference.py, which shares no code with the libraries.
 #![tactic(auto)]
 
-use anyhow::anyhow;
 use std::io::{BufRead, BufReader};
+use std::process::ExitCode;
 
 mod answer;
 mod case;
@@ -38,12 +38,13 @@ fn carry_out(rt: &HostRuntime, case: &Case) -> Result<(), Fault> {
     Ok(())
 }
 
-fn main(rt: HostRuntime) -> anyhow::Result<()> {
+fn main(rt: HostRuntime) -> ExitCode {
     match run(&rt) {
-        Ok(()) => Ok(()),
+        Ok(()) => ExitCode::SUCCESS,
         Err(fault) => {
-            rt.eprintln(&fault)?;
-            Err(anyhow!("vectors could not do it"))
+            // Where nothing can be printed either, the status tells.
+            let _ = rt.eprintln(&fault);
+            ExitCode::FAILURE
         }
     }
 }

@@ -1,8 +1,8 @@
 #!/usr/bin/env python3
 """Compares the library's inverses at n = 701 with those of the reference model, coefficient by coefficient.
 
-Runs `target/bin/polynomials words` (or the program named by the argument), which prints a polynomial f and its inverses modulo 2, 3
-and 8192, and works the inverses out anew with tools/reference.py. Run it in the repository's root after `rt check`.
+Runs `crates/polynomials/out/polynomials words` (or the program named by the argument), which prints a polynomial f and its inverses modulo 2, 3
+and 8192, and works the inverses out anew with tools/reference.py. Run it in the repository's root after `rt run polynomials`.
 """
 import os
 import subprocess
@@ -20,7 +20,7 @@ def lists(program):
 
 
 def main(arguments):
-    program = arguments[0] if arguments else 'target/bin/polynomials'
+    program = arguments[0] if arguments else 'crates/polynomials/out/polynomials'
     told = dict(lists(program))
     f = [code - 3 if code == 2 else code for code in told['f']]
     model = {

@@ -3,7 +3,7 @@
 
     python3 tools/compare_pairs.py [PROGRAM] [--seed SEED] [--turns TURNS]
 
-PROGRAM is target/bin/keycards of this repository unless another is named. For each set it is run
+PROGRAM is crates/keycards/out/keycards of this repository unless another is named. For each set it is run
 as `PROGRAM pair SET COINS PAIR` on TURNS files of random coins, and on some that are chosen. Each run
 must end with status 0, write the model's pair record, and leave a coin file of zeros. Then coins
 of wrong lengths and numbers of no set are tried: such a run must end with status 1, say
@@ -133,7 +133,7 @@ def compare_all(comparison, rng, turns):
 def main():
     """The command line; the exit status."""
     parser = argparse.ArgumentParser(description="Compares the program's pair records with the reference model's.")
-    parser.add_argument("program", nargs="?", default=str(ROOT / "target" / "bin" / "keycards"))
+    parser.add_argument("program", nargs="?", default=str(ROOT / "crates" / "keycards" / "out" / "keycards"))
     parser.add_argument("--seed", type=int, default=None)
     parser.add_argument("--turns", type=int, default=200)
     options = parser.parse_args()

@@ -3,7 +3,7 @@
 
     python3 tools/compare_scheme.py [PROGRAM] [--seed SEED] [--turns TURNS]
 
-PROGRAM is target/bin/keycards of this repository unless another is named. For each set TURNS boards are tried (a tenth of that at set 3):
+PROGRAM is crates/keycards/out/keycards of this repository unless another is named. For each set TURNS boards are tried (a tenth of that at set 3):
 a card is made, tested, sealed to and opened, each also with damaged files, files of wrong lengths, and the card of another board. Where the
 model serves a call, the program must end with status 0 and write the model's bytes; where it refuses, the program must end with
 status 1, say `refused NUMBER` with the model's number in one line on standard error, and write no file. The input files
@@ -201,7 +201,7 @@ def try_manners(comparison, rng):
 def main():
     """The command line; the exit status."""
     parser = argparse.ArgumentParser(description="Compares the program's cards and records with the reference model's.")
-    parser.add_argument("program", nargs="?", default=str(ROOT / "target" / "bin" / "keycards"))
+    parser.add_argument("program", nargs="?", default=str(ROOT / "crates" / "keycards" / "out" / "keycards"))
     parser.add_argument("--seed", type=int, default=None)
     parser.add_argument("--turns", type=int, default=20)
     options = parser.parse_args()

@@ -2,12 +2,13 @@
 # Programs that must not compile: makes each edit of crates/NAME/must-fail/*.md in a copy of the repository, and
 # expects exactly the compile error that the page names. They cannot stand among the *.edit files of the gate, which
 # takes only what the prover refuses: these are refused by the borrow checker, before any proof.
-# Run it in the repository's root, after `rt check`, whose libraries the copy uses.
+# Run it in the repository's root.
 bad=0
 for page in crates/*/must-fail/*.md; do
     crate=$(echo "$page" | cut -d/ -f2)
     copy=$(mktemp -d)
-    cp -r crates.txt crates target "$copy"
+    git ls-files -z crates crates.txt | tar --null -T - -cf - | tar -xf - -C "$copy"
+    git init -q "$copy"
     want=$(sed -n 's/^expect: //p' "$page")
     file=$copy/crates/$crate/$(sed -n 's/^file: //p' "$page")
     OLD=$(sed -n 's/^old: //p' "$page") NEW=$(sed -n 's/^new: //p' "$page") python3 - "$file" <<'PY' || bad=1
@@ -19,7 +20,7 @@ if text.count(old) != 1:
     sys.exit(f"{path}: the text to replace stands {text.count(old)} times")
 open(path, "w", encoding="utf-8").write(text.replace(old, new))
 PY
-    said=$(cd "$copy" && rt dev "$crate" 2>&1)
+    said=$(cd "$copy/crates/$crate" && rt check 2>&1)
     if [ "$(echo "$said" | grep -c ': error\[')" = 1 ] && echo "$said" | grep -q "error\[$want\]"; then
         echo "$page: turned away ($want)"
     else

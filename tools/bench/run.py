@@ -3,9 +3,9 @@
 
     python3 tools/bench/run.py [FOLDER]
 
-P is one product by 701 rows in C (tools/bench/product.c, gcc -O3). FOLDER has the programs `polynomials` and `bench`, and is target/bin
-unless another is named. The three programs take turns, and each figure is the best of all turns. Run it in the repository's root after
-`rt check`, on a machine with nothing else to do.
+P is one product by 701 rows in C (tools/bench/product.c, gcc -O3). FOLDER has the crates `polynomials` and `bench` with their programs,
+and is crates unless another is named. The three programs take turns, and each figure is the best of all turns. Run it in the repository's
+root after `rt run polynomials` and `rt run bench`, on a machine with nothing else to do.
 """
 import subprocess
 import sys
@@ -33,13 +33,13 @@ def lines(command):
 
 
 def main(arguments):
-    folder = arguments[0] if arguments else 'target/bin'
+    folder = arguments[0] if arguments else 'crates'
     with tempfile.TemporaryDirectory() as place:
         program = place + '/product'
         subprocess.run(['gcc', '-O3', '-o', program, 'tools/bench/product.c'], check=True)
         best = {}
         for _ in range(TURNS):
-            for command in ([program], [folder + '/polynomials', 'time'], [folder + '/bench', 'time']):
+            for command in ([program], [f'{folder}/polynomials/out/polynomials', 'time'], [f'{folder}/bench/out/bench', 'time']):
                 for name, value in lines(command).items():
                     best[name] = min(value, best.get(name, value))
     p = best.pop('P')

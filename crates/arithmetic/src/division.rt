@@ -22,7 +22,8 @@ fn reduce<F: Field>(r: &mut [F], d: &[F], q: &mut [F], size: usize, count: usize
     while i >= size {
         let c = r[i - 1].product(lead);
         q[i - size] = c;
-        add_shifted(r, d, c.negation(), i - size, size);
+        let minus = c.negation();
+        add_shifted(r, d, minus, i - size, size);
         i -= 1;
     }
 }

@@ -93,7 +93,7 @@ fn suited(n: usize, a: usize, b: usize, c: usize, d: usize, e: usize) -> bool
     n >= 2 && a == n && b == n && c == n && d == n && e == n
 }
 
-// The inverse of a modulo 1 + x + .. + x^(n - 1), where a has n coefficients, into `result`; the answer is its degree. The lists r, s, t and v
+// The inverse of a modulo 1 + x + .. + x^(n - 1), where a has n coefficients, into `res`; the answer is its degree. The lists r, s, t and v
 // are room to work in, and end as zeros. Where the field's values stand for the integers modulo k, it is the inverse of the polynomial over the
 // integers that a stands for, modulo k and 1 + x + .. + x^(n - 1).
 pub fn inverse_mod_phi<F: Field>(

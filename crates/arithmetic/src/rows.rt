@@ -39,6 +39,7 @@ pub trait RowUnit {
     fn count(&self) -> u64
         ensures rows_served { result ≡ rows self.now };
 
+    // Below the last function, so this is a law: each implementation shows that its count has 64 bits.
     ghost top: { (x : Self) → rows x < 2 ^ 64 };
 }
 

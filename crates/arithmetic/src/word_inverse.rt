@@ -132,7 +132,7 @@ fn invert<U: RowUnit>(
     Some(significant(res) - 1)
 }
 
-// The inverse of f modulo 2^width and 1 + x + .. + x^(n - 1), where f has n words, into `result`; the answer is its degree.
+// The inverse of f modulo 2^width and 1 + x + .. + x^(n - 1), where f has n words, into `res`; the answer is its degree.
 pub fn inverse_of_words<U: RowUnit>(
     unit: &mut U,
     width: u32,

@@ -1,7 +1,6 @@
 // A row unit over another, which has it do each row in two halves.
 ghost use Rattle.std.specs.Prelude.{◌≡◌, ◌+◌, ◌/◌, ◌^◌, ◌<◌, ◌≤◌, length, Ok};
 ghost use Rattle.arithmetic.specs.Rows.{Handed, RowCall, raised, row_sum};
-ghost use Rattle.std.proofs.Common.{rules, arith};
 
 use crate::rows::{MOST_WORDS, RowRefusal, RowUnit};
 
@@ -51,7 +50,7 @@ fn add_halves<U: RowUnit>(
 impl<U: RowUnit> RowUnit for Halving<U> {
     ghost rows = { λ u. u.served };
 
-    ghost top = { first_of (Prim.search rules, Prim.grind (arith, Self.row.coded.inj)) };
+    ghost top = { λ u. u.fits };
 
     fn row(&mut self, factor: u16, list: &[u16], out: &mut [u16]) -> Result<(), RowRefusal>
         ensures row_call { RowCall factor list.now out.old self.old.served result out.new self.new.served }

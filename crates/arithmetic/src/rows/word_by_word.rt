@@ -1,7 +1,6 @@
 // A row unit that goes through a row word by word.
 ghost use Rattle.std.specs.Prelude.{◌≡◌, ◌^◌, ◌<◌, ◌≤◌, length, take};
 ghost use Rattle.arithmetic.specs.Rows.{row_sum};
-ghost use Rattle.std.proofs.Common.{rules, arith};
 
 use crate::rows::{MOST_WORDS, RowRefusal, RowUnit};
 use std::simd::prelude::*;
@@ -88,7 +87,7 @@ fn add_words(factor: u16, list: &[u16], out: &mut [u16])
 impl RowUnit for WordByWord {
     ghost rows = { λ u. u.served };
 
-    ghost top = { first_of (Prim.search rules, Prim.grind (arith, Self.row.coded.inj)) };
+    ghost top = { λ u. u.fits };
 
     fn row(&mut self, factor: u16, list: &[u16], out: &mut [u16]) -> Result<(), RowRefusal> {
         let k = list.len();

@@ -41,7 +41,7 @@ loop-i-preserved g c =
     let written : p (set c.loop-i.q s c.product-c.result) ≡ (polynomials o).plus (p c.loop-i.q) (monomial o x s) =
     poly_set m.laws m.value c.loop-i.q s c.product-c.result x in_q (sym (ap (λ w. o.plus w x) (inv.3 s (omega arith)) ∙ nought_plus m.laws x)) in
     let added : p c.add_shifted.new.r ≡ (polynomials o).plus (p c.loop-i.r) ((polynomials o).times (monomial o (o.minus x) s) (p c.args.d.now)) =
-    c.add_shifted.ensures.added ∙ ap₂ (λ w f. (polynomials o).plus (p c.loop-i.r) ((polynomials o).times (monomial o w s) f)) c.negation.ensures.negates (poly_take m.laws m.value c.args.d.now c.args.size c.requires.divisor.above) in (
+    c.add_shifted.ensures.added ∙ ap₂ (λ w f. (polynomials o).plus (p c.loop-i.r) ((polynomials o).times (monomial o w s) f)) c.negation-minus.ensures.negates (poly_take m.laws m.value c.args.d.now c.args.size c.requires.divisor.above) in (
       omega (arith, inv.0),
       moved m.laws (p c.args.r.now) (p c.args.d.now) (p c.loop-i.q) (p c.loop-i.r) x s inv.1
           ∙ sym (ap₂ (λ q r. (polynomials o).plus ((polynomials o).times q (p c.args.d.now)) r) written added),

@@ -2,7 +2,7 @@
 """Compares the library's inverses at n = 701 with those of the reference model, coefficient by coefficient.
 
 Runs `crates/polynomials/out/polynomials words` (or the program named by the argument), which prints a polynomial f and its inverses modulo 2, 3
-and 8192, and works the inverses out anew with tools/reference.py. Run it in the repository's root after `rt run polynomials`.
+and 8192, and works the inverses out anew with tools/reference.py. Run it in the repository's root after `rt run` in crates/polynomials.
 """
 import os
 import subprocess

@@ -5,7 +5,7 @@
 
 P is one product by 701 rows in C (tools/bench/product.c, gcc -O3). FOLDER has the crates `polynomials` and `bench` with their programs,
 and is crates unless another is named. The three programs take turns, and each figure is the best of all turns. Run it in the repository's
-root after `rt run polynomials` and `rt run bench`, on a machine with nothing else to do.
+root after `rt run` in both folders, on a machine with nothing else to do.
 """
 import subprocess
 import sys

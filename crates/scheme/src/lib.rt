@@ -45,7 +45,7 @@ pub fn examples_hold() -> u8
     0
 }
 
-// Where several refusals fit, the smallest number is given: in the tables of the pair call, the draws and the parts.
+// Where several refusals fit, the smallest number is given, in every table that the contracts cite.
 pub fn smallest_refusals_given() -> u8
     ensures smallest_number { SmallestGiven }
 {

@@ -4,7 +4,7 @@ use Rattle.std.proofs.lemmas.Bool.{eq-eqb, ne_eqb}
 use Rattle.scheme.specs.declared.refusal.Refusal.{Refusal}
 use Rattle.scheme.specs.Steps.{Step, stop, make_rows, outcome, cost}
 
--- an answer, and the rows that were made by then, are those of a table
+-- an answer, and the rows that were made by then, are those of a list of steps
 pub record Tabled (answer : Result (Unit {0}) Refusal) (rows : ℕ) (steps : List Step) : Type 0 where
   pub answer_is : answer ≡ outcome steps
   pub rows_are : rows ≡ cost steps

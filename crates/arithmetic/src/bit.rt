@@ -15,20 +15,25 @@ impl Bit {
     pub const ZERO: Bit = Bit { code: 0 };
 
     pub const ONE: Bit = Bit { code: 1 };
+}
 
-    // The bit that a number is modulo 2.
-    pub fn from_number(number: u16) -> Bit
-        ensures code_of_number { result.code ≡ number % 2 }
-    {
+// The bit that a number is modulo 2.
+impl From<u16> for Bit {
+    ghost from_gives = { λ value b. b.code ≡ value % 2 };
+
+    fn from(value: u16) -> Self {
         Bit {
-            code: (number % 2) as u8,
+            code: (value % 2) as u8,
         }
     }
+}
 
-    pub fn code(self) -> u8
-        ensures code_told { result ≡ self.code }
-    {
-        self.code
+// The number that a bit is: 0 or 1.
+impl From<Bit> for u16 {
+    ghost from_gives = { λ b value. value ≡ b.code };
+
+    fn from(bit: Bit) -> Self {
+        u16::from(bit.code)
     }
 }
 

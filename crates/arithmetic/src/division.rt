@@ -3,28 +3,24 @@ ghost use Rattle.std.specs.Prelude.{◌≡◌, ◌-◌, ◌<◌, ◌≤◌, leng
 ghost use Rattle.euclid.specs.Division.{Divides, NoDivision};
 ghost use Rattle.euclid.specs.Series.{Below, Size, poly, polynomials};
 
-use crate::loops::{add_shifted, clear, copy_into, significant};
+use crate::loops::{add_shifted, clear, significant};
 use crate::rings::Field;
 
-// Takes multiples of d from r until r is shorter than d, and notes their factors in q.
-fn reduce<F: Field>(r: &mut [F], d: &[F], q: &mut [F], size: usize, count: usize)
-    requires some { 0 < size }
-    requires within { size ≤ length d.now }
-    requires divisor { Size F.Ring.ring size (poly F.Ring.ring F.Ring.value d.now) }
-    requires places { (count ≤ length r.old) × (count ≤ length q.old) }
-    requires dividend { Below F.Ring.ring count (poly F.Ring.ring F.Ring.value r.old) }
+// Takes multiples of d, whose last coefficient is not zero, from r until r is shorter than d, and notes their factors in q.
+fn reduce<F: Field>(r: &mut [F], d: &[F], q: &mut [F])
+    requires some { 0 < length d.now }
+    requires divisor { Size F.Ring.ring (length d.now) (poly F.Ring.ring F.Ring.value d.now) }
+    requires places { length r.old ≤ length q.old }
     requires blank { poly F.Ring.ring F.Ring.value q.old ≡ (polynomials F.Ring.ring).nought }
     ensures whole { poly F.Ring.ring F.Ring.value r.old ≡ (polynomials F.Ring.ring).plus ((polynomials F.Ring.ring).times (poly F.Ring.ring F.Ring.value q.new) (poly F.Ring.ring F.Ring.value d.now)) (poly F.Ring.ring F.Ring.value r.new) }
-    ensures shorter { Below F.Ring.ring (size - 1) (poly F.Ring.ring F.Ring.value r.new) }
+    ensures shorter { Below F.Ring.ring (length d.now - 1) (poly F.Ring.ring F.Ring.value r.new) }
 {
-    let lead = d[size - 1].inverse();
-    let mut i = count;
-    while i >= size {
-        let c = r[i - 1].product(lead);
-        q[i - size] = c;
-        let minus = c.negation();
-        add_shifted(r, d, minus, i - size, size);
-        i -= 1;
+    let top = d.len() - 1;
+    let lead = d[top].inverse();
+    for shift in (0..r.len().saturating_sub(top)).rev() {
+        let c = r[shift + top].product(lead);
+        q[shift] = c;
+        add_shifted(r, d, c.negation(), shift);
     }
 }
 
@@ -41,18 +37,14 @@ pub fn divide<F: Field>(
     ensures quotient_and_remainder { let m = F.Ring in let p = poly m.ring m.value in IfSome result (λ s. Divides m.ring (p dividend.now) (p divisor.now) (p quotient.new) (p remainder.new) s.0 s.1) }
 {
     let size = significant(divisor);
-    if size == 0 {
-        return None;
-    }
     let places = dividend.len();
-    if quotient.len() < places {
+    if size == 0 || quotient.len() < places || remainder.len() < places {
         return None;
     }
-    if remainder.len() < places {
-        return None;
-    }
+    let (front, rest) = remainder.split_at_mut(places);
+    front.copy_from_slice(dividend);
+    clear(rest);
     clear(quotient);
-    copy_into(dividend, remainder);
-    reduce(remainder, divisor, quotient, size, places);
+    reduce(front, &divisor[..size], quotient);
     Some((significant(quotient), significant(remainder)))
 }

@@ -16,7 +16,7 @@ mod word;
 mod word_inverse;
 
 pub use bit::Bit;
-pub use cyclic::{subtract_last, times_phi1};
+pub use cyclic::{WrongLength, subtract_last, times_phi1};
 pub use digit::Digit;
 pub use division::divide;
 pub use inverse::inverse_mod_phi;

@@ -14,8 +14,8 @@ use crate::rows::RowUnit;
 fn negate(p: &mut [u16])
     ensures negated { (k : ℕ) → k < length p.old → Differ integers (pos 65536) (pos (slice_index p.new k)) (neg_ℤ (pos (slice_index p.old k))) }
 {
-    for k in 0..p.len() {
-        p[k] = 0u16.wrapping_sub(p[k]);
+    for word in p.iter_mut() {
+        *word = word.wrapping_neg();
     }
 }
 

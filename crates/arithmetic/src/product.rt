@@ -24,14 +24,6 @@ impl Room {
     }
 }
 
-fn clear(out: &mut [u16])
-    ensures all_zero { (k : ℕ) → k < length out.new → slice_index out.new k ≡ 0 }
-{
-    for word in out.iter_mut() {
-        *word = 0;
-    }
-}
-
 // v, and v again.
 pub(crate) fn write_twice(v: &[u16], doubled: &mut [u16])
     requires room { length doubled.old ≡ 2 * length v.now }
@@ -57,11 +49,11 @@ pub(crate) fn multiply_doubled<U: RowUnit>(
     ensures words { (v : List ℕ) → doubled.now ≡ v ++ v → out.new ≡ cyclic_product u.now v }
     ensures count { U.rows unit.new ≡ raised (length u.now) (U.rows unit.old) }
 {
-    clear(out);
+    out.fill(0);
     let n = u.len();
-    for j in 0..n {
+    for (j, factor) in u.iter().enumerate() {
         // Each row has a length that is served.
-        let _ = unit.row(u[j], &doubled[n - j..2 * n - j], out);
+        let _ = unit.row(*factor, &doubled[n - j..2 * n - j], out);
     }
 }
 

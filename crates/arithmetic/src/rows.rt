@@ -12,7 +12,7 @@ pub(crate) const MOST_WORDS: usize = 1408;
 #[derive(Clone, Copy, PartialEq, Eq, Debug)]
 pub enum RowRefusal {
     // The list of a row is not 1 to 1408 words long or the output not as long as the list; or the lists of a product do not fit.
-    Length,
+    Length = 15,
 }
 
 impl RowRefusal {
@@ -20,9 +20,7 @@ impl RowRefusal {
     pub fn number(self) -> u8
         ensures number_of_the_refusal { result ≡ number_of self }
     {
-        match self {
-            RowRefusal::Length => 15,
-        }
+        self as u8
     }
 }
 

@@ -21,8 +21,8 @@ fn parities(f: &[u16], out: &mut [Bit])
     requires { length out.old ≡ length f.now }
     ensures { (k : ℕ) → k < length f.now → (slice_index_or out.new k (bit 0)).code ≡ slice_index f.now k % 2 }
 {
-    for i in 0..f.len() {
-        out[i] = Bit::from_number(f[i]);
+    for (i, word) in f.iter().enumerate() {
+        out[i] = Bit::from(*word);
     }
 }
 
@@ -31,8 +31,8 @@ fn widen(bits: &[Bit], out: &mut [u16])
     requires { length out.old ≡ length bits.now }
     ensures { (k : ℕ) → k < length bits.now → slice_index out.new k ≡ (slice_index_or bits.now k (bit 0)).code }
 {
-    for i in 0..bits.len() {
-        out[i] = u16::from(bits[i].code());
+    for (i, bit) in bits.iter().enumerate() {
+        out[i] = u16::from(*bit);
     }
 }
 
@@ -43,8 +43,8 @@ fn mask_into(width: u32, words: &[u16], out: &mut [u16])
     ensures { (k : ℕ) → k < length words.now → slice_index out.new k ≡ slice_index words.now k % 2 ^ width }
 {
     let mask = (1u32 << width) - 1;
-    for i in 0..words.len() {
-        out[i] = (u32::from(words[i]) & mask) as u16;
+    for (i, word) in words.iter().enumerate() {
+        out[i] = (u32::from(*word) & mask) as u16;
     }
 }
 

@@ -4,16 +4,31 @@ ghost use Rattle.arithmetic.specs.Digits.{digit, number, sign};
 
 use crate::digit::Digit;
 
-impl Digit {
-    // The digit of a number: its remainder modulo 3, where 2 counts as -1.
-    pub fn from_number(number: u16) -> Self
-        ensures digit_of_the_number { result ≡ digit number }
-    {
+// The digit of a number: its remainder modulo 3, where 2 counts as -1.
+impl From<u16> for Digit {
+    ghost from_gives = { λ value d. d ≡ digit value };
+
+    fn from(value: u16) -> Self {
         Digit {
-            code: (number % 3) as u8,
+            code: (value % 3) as u8,
         }
     }
+}
 
+// The number that a digit is: -1, 0 or 1.
+impl From<Digit> for i8 {
+    ghost from_gives = { λ d value. value ≡ number d };
+
+    fn from(digit: Digit) -> Self {
+        match digit.code {
+            0 => 0,
+            1 => 1,
+            _ => -1,
+        }
+    }
+}
+
+impl Digit {
     // The sign of a number: -1, 0 or 1.
     pub fn from_sign(value: i8) -> Self
         ensures sign_of_the_number { result ≡ sign value }
@@ -32,16 +47,5 @@ impl Digit {
         ensures written_code { result ≡ self.code }
     {
         self.code
-    }
-
-    // The digit as a number.
-    pub fn signed(self) -> i8
-        ensures signed_value { result ≡ number self }
-    {
-        match self.code {
-            0 => 0,
-            1 => 1,
-            _ => -1,
-        }
     }
 }

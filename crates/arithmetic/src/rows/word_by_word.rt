@@ -51,8 +51,8 @@ fn add_singly(factor: u16, list: &[u16], out: &mut [u16])
     requires same_length { length out.old ≡ length list.now }
     ensures words { out.new ≡ row_sum 65536 factor list.now out.old }
 {
-    for i in 0..list.len() {
-        out[i] = out[i].wrapping_add(factor.wrapping_mul(list[i]));
+    for (i, word) in list.iter().enumerate() {
+        out[i] = out[i].wrapping_add(factor.wrapping_mul(*word));
     }
 }
 

@@ -1,15 +1,16 @@
-use Rattle.std.proofs.Common.{◌≡◌, ℕ, zero, suc, ◌-◌, ◌<◌, length, ap, ◌∙◌, ap₂, arith}
+use Rattle.std.proofs.Common.{◌≡◌, sym, ℕ, ◌-◌, ◌<◌, length, ap, ◌∙◌, ap₂, arith, add-one}
 use Rattle.euclid.specs.Series.{before, poly, phi1}
 use Rattle.euclid.proofs.Lists.{poly_past, poly_read}
 use Rattle.euclid.proofs.Cycles.{phi1_cyclic}
 use Rattle.euclid.proofs.Steps.{written_more}
 use Rattle.arithmetic.proofs.Standing.{phi1_stands}
 use Rattle.arithmetic.proofs.cyclic.times_phi1.Goals as goal
-use Rattle.arithmetic.proofs.cyclic.times_phi1.Goals.{then-i-eq0, else-i-eq0}
 
-before_later : (n k : ℕ) → 0 < k → k - 1 ≡ before n k
-before_later n zero h = let z : ⊥ = omega arith in absurd z
-before_later n (suc k) h = omega arith
+pub loop-i-init : goal.loop-i-init
+loop-i-init g c =
+    let m = g.R.Ring in
+    let v = c.args.v.now in
+    (poly_read m.laws m.value v (length v - 1) c.last-item.result (omega arith) c.last-item.is, λ k h. absurd (omega arith))
 
 pub loop-i-preserved : goal.loop-i-preserved
 loop-i-preserved g c =
@@ -19,13 +20,11 @@ loop-i-preserved g c =
     let i = c.loop-i.i in
     let in_i : i < n = omega arith in
     let in_o : i < length c.loop-i.out = omega arith in
-    let here = c.negation.ensures.negates ∙ ap m.ring.minus (poly_read m.laws m.value v i c.index-v-i-in-loop-i.result in_i c.index-v-i-in-loop-i.is) in
-    let there : m.value c.if-i-eq0.before ≡ poly m.ring m.value v (before n i) =
-    elim c.if-i-eq0.branch [
-      | then-i-eq0 w ↦ let e : ◌≡◌ {A = ℕ} 0 i = omega (arith, w.if-i-eq0.true) in ap m.value w.before-is ∙ poly_read m.laws m.value v (n - 1) w.index-v-n.result (omega arith) w.index-v-n.is ∙ ap (λ k. poly m.ring m.value v (before n k)) e
-      | else-i-eq0 w ↦ let p : 0 < i = omega (arith, w.if-i-eq0.false) in ap m.value w.before-is ∙ poly_read m.laws m.value v (i - 1) w.index-v-i.result (omega arith) w.index-v-i.is ∙ ap (poly m.ring m.value v) (before_later n i p)
-    ] in
-    written_more m.laws m.value (phi1 m.ring n (poly m.ring m.value v)) c.loop-i.out i c.sum.result in_o (c.sum.ensures.adds ∙ ap₂ m.ring.plus there here) c.loop-i.invariant
+    let read = poly_read m.laws m.value v i c.index-v-i.result in_i c.index-v-i.is in
+    let here = c.negation.ensures.negates ∙ ap m.ring.minus read in (
+      read ∙ ap (λ j. poly m.ring m.value v (before n j)) (sym (add-one i)),
+      written_more m.laws m.value (phi1 m.ring n (poly m.ring m.value v)) c.loop-i.out i c.sum.result in_o (c.sum.ensures.adds ∙ ap₂ m.ring.plus c.loop-i.invariant.0 here) c.loop-i.invariant.1,
+    )
 
 pub returns : goal.returns
 returns g c =
@@ -34,7 +33,7 @@ returns g c =
     let v = c.args.v.now in
     let n = length v in
     let out = c.loop-i.out in
-    let each : (k : ℕ) → k < n → p out k ≡ phi1 m.ring n (p v) k = λ k l. c.loop-i.invariant k (omega arith) in
+    let each : (k : ℕ) → k < n → p out k ≡ phi1 m.ring n (p v) k = λ k l. c.loop-i.invariant.1 k (omega arith) in
     record {
       served_where_lengths_agree = λ _. omega arith;
       refused_where_lengths_differ = λ e _. let z : ◌≡◌ {A = ℕ} 0 1 = cc in omega arith;

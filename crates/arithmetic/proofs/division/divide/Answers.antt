@@ -1,48 +1,41 @@
-use Rattle.std.proofs.Common.{◌-◌, ◌<◌, length, sym, refl, ap, ◌∙◌, inl, ⊎_elim, arith}
-use Rattle.euclid.specs.Series.{poly}
-use Rattle.euclid.proofs.Lists.{poly_past}
-use Rattle.euclid.proofs.Sizes.{below_zero, size_some, size_le, size_unique}
+use Rattle.std.proofs.Common.{◌≡◌, ◌-◌, ◌<◌, length, take, sym, ap, ◌∙◌, ⊎_elim, subst, ap₂, subst₂, arith}
+use Rattle.std.proofs.lemmas.List.{length-take-le}
+use Rattle.euclid.specs.Series.{Size, poly, polynomials}
+use Rattle.euclid.proofs.Lists.{poly_take}
+use Rattle.euclid.proofs.Sizes.{size_some, size_le, size_unique}
+use Rattle.arithmetic.proofs.Fronts.{poly_ended}
 use Rattle.arithmetic.proofs.division.divide.Goals as goal
 
-pub returns-then-size-eq0 : goal.returns-then-size-eq0
-returns-then-size-eq0 g c =
+pub reduce-requires-clause-divisor : goal.reduce-requires-clause-divisor
+reduce-requires-clause-divisor g c =
     let m = g.F.Ring in
-    let b = poly m.ring m.value c.args.divisor.now in
-    record {
-      none_exactly_when_no_division = inl (below_zero m.ring b (λ k h. c.significant-size.ensures.size.above k (omega arith)));
-      none_leaves_buffers = (refl, refl);
-      quotient_and_remainder = tt;
-    }
+    let p = poly m.ring m.value in
+    let b = c.args.divisor.now in
+    let n = c.significant-size.result in
+    subst₂ (λ i f. Size m.ring i f) (sym (length-take-le n b c.significant-size.ensures.within)) (sym (poly_take m.laws m.value b n c.significant-size.ensures.size.above)) c.significant-size.ensures.size
 
-pub reduce-requires : goal.reduce-requires
-reduce-requires g c =
+pub returns-clause-none_exactly_when_no_division : goal.returns-clause-none_exactly_when_no_division
+returns-clause-none_exactly_when_no_division g c =
     let m = g.F.Ring in
-    record {
-      some = omega arith;
-      within = c.significant-size.ensures.within;
-      divisor = c.significant-size.ensures.size;
-      places = (omega arith, omega arith);
-      dividend = λ k h. ap (λ f. f k) c.copy_into.ensures.copied ∙ poly_past m.laws m.value c.args.dividend.now k h;
-      blank = c.clear.ensures.all_zeros;
-    }
-
-pub returns : goal.returns
-returns g c =
-    let m = g.F.Ring in
-    let b = poly m.ring m.value c.args.divisor.now in
-    let size = c.significant-size.ensures.size in
     let some : 0 < c.significant-size.result = omega arith in
-    let short = size_le m.ring c.significant-2.result (c.significant-size.result - 1) (poly m.ring m.value c.reduce.new.r) c.significant-2.ensures.size c.reduce.ensures.shorter in
+    ⊎_elim
+    (λ e. size_some m.ring c.significant-size.result (poly m.ring m.value c.args.divisor.now) c.significant-size.ensures.size some e)
+    (⊎_elim (λ (l : length c.args.quotient.now < length c.args.dividend.now). let z : ⊥ = omega arith in z) (λ (l : length c.args.remainder.now < length c.args.dividend.now). let z : ⊥ = omega arith in z))
+
+pub returns-clause-quotient_and_remainder : goal.returns-clause-quotient_and_remainder
+returns-clause-quotient_and_remainder g c =
+    let m = g.F.Ring in
+    let p = poly m.ring m.value in
+    let b = c.args.divisor.now in
+    let n = c.significant-size.result in
+    let size = c.significant-size.ensures.size in
+    let places : length (take n b) ≡ n = length-take-le n b c.significant-size.ensures.within in
+    let front = poly_take m.laws m.value b n size.above in
+    let whole = poly_ended m.ring m.value c.reduce.new.r c.clear.new.p c.clear.ensures.all_zeros in
+    let short = size_le m.ring c.significant-2.result (n - 1) (p c.reduce.new.r) (subst (Size m.ring c.significant-2.result) whole c.significant-2.ensures.size) (λ k h. c.reduce.ensures.shorter k (omega (arith, places))) in
     record {
-      none_exactly_when_no_division =
-          ⊎_elim
-          (λ e. size_some m.ring c.significant-size.result b size some e)
-          (⊎_elim (λ (l : length c.args.quotient.now < length c.args.dividend.now). let z : ⊥ = omega arith in z) (λ (l : length c.args.remainder.now < length c.args.dividend.now). let z : ⊥ = omega arith in z));
-      none_leaves_buffers = tt;
-      quotient_and_remainder = record {
-        whole = sym c.copy_into.ensures.copied ∙ c.reduce.ensures.whole;
-        quotient = c.significant.ensures.size;
-        remainder = c.significant-2.ensures.size;
-        shorter = λ s t. let u = size_unique m.ring c.significant-size.result s b size t in omega arith;
-      };
+      whole = sym (ap p c.copy_from_slice.ensures.after) ∙ c.reduce.ensures.whole ∙ ap₂ (λ f r. (polynomials m.ring).plus ((polynomials m.ring).times (p c.reduce.new.q) f) r) front (sym whole);
+      quotient = c.significant.ensures.size;
+      remainder = c.significant-2.ensures.size;
+      shorter = λ s t. let u = size_unique m.ring n s (p b) size t in omega arith;
     }

@@ -3,12 +3,16 @@ use Rattle.euclid.specs.Series.{poly}
 use Rattle.euclid.specs.Method.{Reached}
 use Rattle.arithmetic.proofs.inverse.euclid.Given as goal
 
-abbrev pub invariant-loop-k : goal.invariant-loop-k
-invariant-loop-k g l =
+abbrev pub invariant-loop-low : goal.invariant-loop-low
+invariant-loop-low g l =
     let o = g.F.Ring.ring in
     let p = poly o g.F.Ring.value in
-    (l.res ≡ l.initial.res)
-    × Reached o (length l.initial.r) (p l.initial.s) (p l.r) (p l.s) (p l.t) (p l.v) l.m l.k
+    let n = length l.initial.high.rest.now in
+    record {
+      inverse_kept : l.inverse ≡ l.initial.inverse;
+      lengths : (length l.high.rest.now ≡ n) × ((length l.high.factor.now ≡ n) × ((length l.low.rest.now ≡ n) × (length l.low.factor.now ≡ n)));
+      reached : Reached o n (p l.initial.low.rest.now) (p l.high.rest.now) (p l.low.rest.now) (p l.high.factor.now) (p l.low.factor.now) l.high.size l.low.size;
+    }
 
-abbrev pub decreases-loop-k : goal.decreases-loop-k
-decreases-loop-k g l = l.k
+abbrev pub decreases-loop-low : goal.decreases-loop-low
+decreases-loop-low g l = l.low.size

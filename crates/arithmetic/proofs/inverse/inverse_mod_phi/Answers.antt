@@ -28,22 +28,22 @@ returns g c =
     let n = length c.args.a.now in
     let a = p c.args.a.now in
     let ha = poly_past F.laws F.value c.args.a.now in
-    let Fit : Type 0 = Suited n (length c.args.res.now) (length c.args.r.now) (length c.args.s.now) (length c.args.t.now) (length c.args.v.now) in
-    let Found : Option ℕ → List g.row.F.Denot → Type 0 = λ x xs. MatchOption x ((Fit → NoInverse o n a) × (xs ≡ c.args.res.now)) (λ degree. Fit × Inverted o n a (p xs) degree) in
-    let found : Found c.if-suited.answer c.if-suited.res =
+    let Fit : Type 0 = Suited n (length c.args.inverse.now) (length c.args.r.now) (length c.args.s.now) (length c.args.t.now) (length c.args.v.now) in
+    let Found : Option ℕ → List g.row.F.Denot → Type 0 = λ x xs. MatchOption x ((Fit → NoInverse o n a) × (xs ≡ c.args.inverse.now)) (λ degree. Fit × Inverted o n a (p xs) degree) in
+    let found : Found c.if-suited.answer c.if-suited.inverse =
     elim c.if-suited.branch [
       | then-suited w ↦
           let fit : Fit = c.suited.ensures.fit w.if-suited.true in
           let n_is : length w.fill_ones.new.p ≡ n = omega arith in
-          let answer = subst₂ (λ i f. MatchOption w.euclid-answer.result (NoInverse o i f × (w.euclid-answer.new.res ≡ c.args.res.now)) (λ degree. Inverted o i f (p w.euclid-answer.new.res) degree)) n_is w.copy_into.ensures.copied w.euclid-answer.ensures.inverse_or_none in
-          subst₂ Found (sym w.answer-is) (sym w.res-is) (both w.euclid-answer.result (λ e. ((λ _. e.0), e.1)) (λ degree e. (fit, e)) answer)
-      | else-suited w ↦ subst₂ Found (sym w.answer-is) (sym w.res-is) ((λ fit u i. c.suited.ensures.unfit w.if-suited.false fit), refl)
+          let answer = subst₂ (λ i f. MatchOption w.euclid-answer.result (NoInverse o i f × (w.euclid-answer.new.inverse ≡ c.args.inverse.now)) (λ degree. Inverted o i f (p w.euclid-answer.new.inverse) degree)) n_is (ap p w.copy_from_slice.ensures.after) w.euclid-answer.ensures.inverse_or_none in
+          subst₂ Found (sym w.answer-is) (sym w.inverse-is) (both w.euclid-answer.result (λ e. ((λ _. e.0), e.1)) (λ degree e. (fit, e)) answer)
+      | else-suited w ↦ subst₂ Found (sym w.answer-is) (sym w.inverse-is) ((λ fit u i. c.suited.ensures.unfit w.if-suited.false fit), refl)
     ] in
     record {
       none_exactly_when_none_serves = both c.if-suited.answer (λ e. e.0) (λ degree e. e) found;
       over_the_integers = λ k number S. both c.if-suited.answer
           (λ e fit. none_over_integers F.laws k number S n fit.0 a ha (e.0 fit))
-          (λ degree e. inverse_over_integers F.laws k number S n e.0.0 a ha (p c.if-suited.res) (λ i l. e.1.reduced i (omega arith)) e.1.inverse)
+          (λ degree e. inverse_over_integers F.laws k number S n e.0.0 a ha (p c.if-suited.inverse) (λ i l. e.1.reduced i (omega arith)) e.1.inverse)
           found;
       none_leaves_result = both c.if-suited.answer (λ e. e.1) (λ degree e. tt) found;
       r_ends_as_zeros = c.clear-2.ensures.all_zeros;

@@ -1,4 +1,5 @@
-use Rattle.std.proofs.Common.{◌≡◌, ◌+◌, ◌<◌, length, take, ap, ◌∙◌, ap₂, arith}
+use Rattle.std.proofs.Common.{◌+◌, ◌<◌, length, ap, ◌∙◌, ap₂, arith}
+use Rattle.std.proofs.lemmas.List.{take_all}
 use Rattle.euclid.specs.Series.{monomial, poly, polynomials}
 use Rattle.euclid.proofs.Lists.{poly_read}
 use Rattle.euclid.proofs.Steps.{shifted_more, shifted_none}
@@ -22,6 +23,6 @@ pub returns : goal.returns
 returns g c = record {
   added =
       let m = g.R.Ring in
-      let e : c.loop-i.i ≡ c.args.size = omega arith in
-      c.loop-i.invariant ∙ ap (λ i. (polynomials m.ring).plus (poly m.ring m.value c.args.r.now) ((polynomials m.ring).times (monomial m.ring (m.value c.args.c) c.args.shift) (poly m.ring m.value (take i c.args.d.now)))) e;
+      let d = c.args.d.now in
+      c.loop-i.invariant ∙ ap (λ xs. (polynomials m.ring).plus (poly m.ring m.value c.args.r.now) ((polynomials m.ring).times (monomial m.ring (m.value c.args.c) c.args.shift) (poly m.ring m.value xs))) (take_all c.loop-i.i d (omega arith));
 }

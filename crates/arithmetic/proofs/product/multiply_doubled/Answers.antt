@@ -7,7 +7,7 @@ use Rattle.arithmetic.proofs.product.multiply_doubled.Goals as goal
 
 pub loop-j-init : goal.loop-j-init
 unfolding sum_by
-loop-j-init g c = ((λ k l. c.clear.ensures.all_zero k (omega arith)), omega (arith, g.met.U.RowUnit.top c.args.unit.now))
+loop-j-init g c = ((λ k l. search (rules, places)), omega (arith, g.met.U.RowUnit.top c.args.unit.now))
 
 pub loop-j-preserved : goal.loop-j-preserved
 loop-j-preserved g c =

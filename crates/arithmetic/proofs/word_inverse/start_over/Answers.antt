@@ -14,6 +14,6 @@ returns-in-None c =
 pub returns-in-Some : goal.returns-in-Some
 returns-in-Some c =
     record {
-      found = λ _. bits_found c.args.f.now c.parities.new.out (omega arith) c.parities.ensures c.widen.new.out c.inverse_mod_phi.new.res (omega arith) c.widen.ensures (c.in-Some.ensures.over_the_integers 2 (residue_number 2) (residues_stand 2 (lit< tt)));
+      found = λ _. bits_found c.args.f.now c.parities.new.out (omega arith) c.parities.ensures c.widen.new.out c.inverse_mod_phi.new.inverse (omega arith) c.widen.ensures (c.in-Some.ensures.over_the_integers 2 (residue_number 2) (residues_stand 2 (lit< tt)));
       none = λ e. absurd (let z : ◌≡◌ {A = ℕ} 0 1 = cc in omega arith);
     }

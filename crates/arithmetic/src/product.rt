@@ -3,7 +3,7 @@ ghost use Rattle.std.specs.Prelude.{◌≡◌, ℕ, ◌*◌, ◌<◌, ◌≤◌,
 ghost use Rattle.arithmetic.specs.Products.{MaskedProducts, Product, TernaryProducts, cyclic_product};
 ghost use Rattle.arithmetic.specs.Rows.{raised};
 
-use crate::rows::{MOST_WORDS, RowRefusal, RowUnit};
+use crate::rows::{MOST_WORDS, RowRefusal, RowUnit, check};
 
 // Room for the output of a product of the most words. A list whose place is no multiple of 16 bytes makes rows up to a quarter slower;
 // the first field has the struct, and with it the list, begin at one.
@@ -67,8 +67,8 @@ pub fn multiply<U: RowUnit>(
 ) -> Result<(), RowRefusal>
     ensures product { Product u.now v.now doubled.old out.old (U.rows unit.old) result doubled.new out.new (U.rows unit.new) }
 {
-    let n = u.len();
-    if n < 1 || n > MOST_WORDS || v.len() != n || doubled.len() != 2 * n || out.len() != n {
+    check(u, out)?;
+    if v.len() != u.len() || doubled.len() != 2 * u.len() {
         return Err(RowRefusal::Length);
     }
     write_twice(v, doubled);

@@ -1,6 +1,7 @@
 // Row units: a factor times a list of words, added to a list of words modulo 65536.
-ghost use Rattle.std.specs.Prelude.{◌≡◌, ℕ, ◌^◌, ◌<◌};
-ghost use Rattle.arithmetic.specs.Rows.{RowCall, WorkedRow, number_of};
+ghost use Rattle.std.specs.Prelude.{◌≡◌, ℕ, ◌^◌, ◌<◌, Ok, Err, IsErr};
+ghost use Rattle.arithmetic.specs.Rows.{RowCall, Serves, WorkedRow, number_of};
+ghost use Rattle.arithmetic.specs.declared.rows.RowRefusal.TheVariants.{Length};
 
 pub(crate) mod halving;
 pub(crate) mod word_by_word;
@@ -22,6 +23,17 @@ impl RowRefusal {
     {
         self as u8
     }
+}
+
+// Whether a row unit serves a row: 1 to 1408 words, and as many in the output.
+pub(crate) fn check(list: &[u16], out: &[u16]) -> Result<(), RowRefusal>
+    ensures served { result ≡ Ok tt → Serves list.now out.now }
+    ensures refused { IsErr result → (Serves list.now out.now → ⊥) × (result ≡ Err Length) }
+{
+    if list.is_empty() || list.len() > MOST_WORDS || out.len() != list.len() {
+        return Err(RowRefusal::Length);
+    }
+    Ok(())
 }
 
 // What adds rows. It may be plain code or a piece of hardware.

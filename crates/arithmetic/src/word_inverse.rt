@@ -1,5 +1,5 @@
 // Inverses of polynomials of words modulo 2^w and 1 + x + .. + x^(n - 1), from inverses modulo 2.
-ghost use Rattle.std.specs.Prelude.{◌≡◌, ℕ, ◌*◌, ◌%◌, ◌^◌, ◌<◌, ◌≤◌, true, false, length, slice_index, slice_index_or};
+ghost use Rattle.std.specs.Prelude.{◌≡◌, ℕ, ◌*◌, ◌%◌, ◌^◌, ◌<◌, ◌≤◌, length, MatchOption, slice_index, slice_index_or};
 ghost use Rattle.algebra.specs.Polynomials.{InverseMod, NoInverseMod};
 ghost use Rattle.euclid.specs.Inverses.{Suited};
 ghost use Rattle.arithmetic.specs.Bits.{bit};
@@ -48,7 +48,7 @@ fn mask_into(width: u32, words: &[u16], out: &mut [u16])
     }
 }
 
-// The inverse of f modulo 2, by Euclid's method over the lists of bits. Answers whether there is one.
+// The inverse of f modulo 2, by Euclid's method over lists of bits; nothing where there is none.
 fn start_over(
     f: &[u16],
     u: &mut [u16],
@@ -58,28 +58,22 @@ fn start_over(
     s: &mut [Bit],
     t: &mut [Bit],
     v: &mut [Bit],
-) -> bool
-    requires result { length u.old ≡ length f.now }
+) -> Option<()>
+    requires words { length u.old ≡ length f.now }
     requires bits { length a.old ≡ length f.now }
     requires room { Suited (length f.now) (length b.old) (length r.old) (length s.old) (length t.old) (length v.old) }
-    ensures found { result ≡ true → InverseMod 2 (length f.now) (integers_of f.now) (integers_of u.new) }
-    ensures none { result ≡ false → NoInverseMod 2 (length f.now) (integers_of f.now) }
+    ensures inverse_or_none { MatchOption result (NoInverseMod 2 (length f.now) (integers_of f.now)) (λ _. InverseMod 2 (length f.now) (integers_of f.now) (integers_of u.new)) }
 {
     parities(f, a);
-    match inverse_mod_phi(a, b, r, s, t, v) {
-        None => false,
-        Some(_) => {
-            widen(b, u);
-            true
-        }
-    }
+    inverse_mod_phi(a, b, r, s, t, v)?;
+    widen(b, u);
+    Some(())
 }
 
-// The same with lists of its own.
-fn start(f: &[u16], u: &mut [u16]) -> bool
+// The same with lists of its own. One function for both was tried: no proof reaches the lengths of so many lists that are parts of arrays.
+fn start(f: &[u16], u: &mut [u16]) -> Option<()>
     requires sizes { (2 ≤ length f.now) × ((length f.now ≤ 1408) × (length u.old ≡ length f.now)) }
-    ensures found { result ≡ true → InverseMod 2 (length f.now) (integers_of f.now) (integers_of u.new) }
-    ensures none { result ≡ false → NoInverseMod 2 (length f.now) (integers_of f.now) }
+    ensures inverse_or_none { MatchOption result (NoInverseMod 2 (length f.now) (integers_of f.now)) (λ _. InverseMod 2 (length f.now) (integers_of f.now) (integers_of u.new)) }
 {
     let n = f.len();
     let mut a = [Bit::ZERO; MOST_WORDS];
@@ -91,60 +85,32 @@ fn start(f: &[u16], u: &mut [u16]) -> bool
     start_over(
         f,
         u,
-        &mut a[0..n],
-        &mut b[0..n],
-        &mut r[0..n],
-        &mut s[0..n],
-        &mut t[0..n],
-        &mut v[0..n],
+        &mut a[..n],
+        &mut b[..n],
+        &mut r[..n],
+        &mut s[..n],
+        &mut t[..n],
+        &mut v[..n],
     )
 }
 
-// From the inverse modulo 2 to the one modulo 65536, with lists of its own: 2816 words hold a second factor twice.
-fn lift<U: RowUnit>(unit: &mut U, f: &[u16], u: &mut [u16])
-    requires sizes { (1 ≤ length f.now) × ((length f.now ≤ 1408) × (length u.old ≡ length f.now)) }
-    ensures lifted { Lifted f.now u.old u.new }
-    ensures count { U.rows unit.new ≡ raised (8 * length f.now) (U.rows unit.old) }
-{
-    let n = f.len();
-    let mut doubled = [0u16; 2816];
-    let mut p = Room::new();
-    lift_inverse(unit, f, u, &mut doubled[0..2 * n], &mut p.words[0..n]);
-}
-
-// The inverse where everything suits; u is room for the inverse modulo 65536.
-fn invert<U: RowUnit>(
-    unit: &mut U,
-    width: u32,
-    f: &[u16],
-    u: &mut [u16],
-    res: &mut [u16],
-) -> Option<usize>
-    requires taken { Taken width f.now res.old }
-    requires room { length u.old ≡ length f.now }
-    ensures answered { Answered width f.now res.old (U.rows unit.old) result res.new (U.rows unit.new) }
-{
-    if !start(f, u) {
-        return None;
-    }
-    lift(unit, f, u);
-    mask_into(width, u, res);
-    Some(significant(res) - 1)
-}
-
-// The inverse of f modulo 2^width and 1 + x + .. + x^(n - 1), where f has n words, into `res`; the answer is its degree.
+// The inverse of f modulo 2^width and 1 + x + .. + x^(n - 1), where f has n words, into `inverse`; the answer is its degree.
 pub fn inverse_of_words<U: RowUnit>(
     unit: &mut U,
     width: u32,
     f: &[u16],
-    res: &mut [u16],
+    inverse: &mut [u16],
 ) -> Option<usize>
-    ensures none_exactly_when_none_serves { Answered width f.now res.old (U.rows unit.old) result res.new (U.rows unit.new) }
+    ensures none_exactly_when_none_serves { Answered width f.now inverse.old (U.rows unit.old) result inverse.new (U.rows unit.new) }
 {
     let n = f.len();
-    if width < 1 || width > 16 || n < 2 || n > MOST_WORDS || res.len() != n {
+    if width < 1 || width > 16 || n < 2 || n > MOST_WORDS || inverse.len() != n {
         return None;
     }
-    let mut u = Room::new();
-    invert(unit, width, f, &mut u.words[0..n], res)
+    let mut room = Room::new();
+    let u = &mut room.words[..n];
+    start(f, u)?;
+    lift_inverse(unit, f, u);
+    mask_into(width, u, inverse);
+    Some(significant(inverse) - 1)
 }

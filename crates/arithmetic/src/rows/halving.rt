@@ -2,7 +2,7 @@
 ghost use Rattle.std.specs.Prelude.{◌≡◌, ◌+◌, ◌/◌, ◌^◌, ◌<◌, ◌≤◌, length, Ok};
 ghost use Rattle.arithmetic.specs.Rows.{Handed, RowCall, raised, row_sum};
 
-use crate::rows::{MOST_WORDS, RowRefusal, RowUnit};
+use crate::rows::{RowRefusal, RowUnit, check};
 
 #[derive(Drop)]
 pub struct Halving<U> {
@@ -56,11 +56,8 @@ impl<U: RowUnit> RowUnit for Halving<U> {
         ensures row_call { RowCall factor list.now out.old self.old.served result out.new self.new.served }
         ensures rows_below { Handed list.now out.old (U.RowUnit.rows self.old.below) (U.RowUnit.rows self.new.below) }
     {
-        let k = list.len();
-        if k < 1 || k > MOST_WORDS || out.len() != k {
-            return Err(RowRefusal::Length);
-        }
-        if k == 1 {
+        check(list, out)?;
+        if list.len() == 1 {
             self.below.row(factor, list, out)?;
         } else {
             add_halves(&mut self.below, factor, list, out)?;

@@ -1,8 +1,8 @@
 // A row unit that goes through a row word by word.
-ghost use Rattle.std.specs.Prelude.{◌≡◌, ◌^◌, ◌<◌, ◌≤◌, length, take};
+ghost use Rattle.std.specs.Prelude.{◌≡◌, ℕ, ◌^◌, ◌<◌, ◌≤◌, List, length, take};
 ghost use Rattle.arithmetic.specs.Rows.{row_sum};
 
-use crate::rows::{MOST_WORDS, RowRefusal, RowUnit};
+use crate::rows::{RowRefusal, RowUnit, check};
 use std::simd::prelude::*;
 
 #[derive(Drop)]
@@ -31,14 +31,15 @@ fn add_lanes<const N: usize>(factor: u16, list: &[u16], out: &mut [u16])
     sums.copy_to_slice(out);
 }
 
-// The first words of a row in their order, as many as fill vectors of N lanes. Answers how many these are.
-fn add_vectors<const N: usize>(factor: u16, list: &[u16], out: &mut [u16]) -> usize
+// The words from `done` on, as many as fill vectors of N lanes. Answers how many words are done then.
+fn add_vectors<const N: usize>(factor: u16, list: &[u16], out: &mut [u16], done: usize) -> usize
     requires some_lanes { 0 < N }
     requires same_length { length out.old ≡ length list.now }
+    requires within { done ≤ length list.now }
     ensures within { result ≤ length list.now }
-    ensures words { out.new ≡ row_sum 65536 factor (take result list.now) out.old }
+    ensures words { (before : List ℕ) → out.old ≡ row_sum 65536 factor (take done list.now) before → out.new ≡ row_sum 65536 factor (take result list.now) before }
 {
-    let mut i = 0;
+    let mut i = done;
     while list.len() - i >= N {
         add_lanes::<N>(factor, &list[i..i + N], &mut out[i..i + N]);
         i += N;
@@ -56,32 +57,16 @@ fn add_singly(factor: u16, list: &[u16], out: &mut [u16])
     }
 }
 
-// Shorter vectors, then the one to three words that may be left.
-fn add_last(factor: u16, list: &[u16], out: &mut [u16])
-    requires same_length { length out.old ≡ length list.now }
-    ensures words { out.new ≡ row_sum 65536 factor list.now out.old }
-{
-    let done = add_vectors::<4>(factor, list, out);
-    add_singly(factor, &list[done..], &mut out[done..]);
-}
-
-// Short vectors, and what is left after them.
-fn add_rest(factor: u16, list: &[u16], out: &mut [u16])
-    requires same_length { length out.old ≡ length list.now }
-    ensures words { out.new ≡ row_sum 65536 factor list.now out.old }
-{
-    let done = add_vectors::<8>(factor, list, out);
-    add_last(factor, &list[done..], &mut out[done..]);
-}
-
-// The words of a row in their order, long vectors first. They are explicit, since a compiler
-// that is to find vectors itself can fail to where rows stand in a loop, and is then six times slower.
+// The words of a row in their order: long vectors first, then shorter ones, then the one to three words that may be left. They are explicit,
+// since a compiler that is to find vectors itself can fail to where rows stand in a loop, and is then six times slower.
 fn add_words(factor: u16, list: &[u16], out: &mut [u16])
     requires same_length { length out.old ≡ length list.now }
     ensures words { out.new ≡ row_sum 65536 factor list.now out.old }
 {
-    let done = add_vectors::<16>(factor, list, out);
-    add_rest(factor, &list[done..], &mut out[done..]);
+    let mut done = add_vectors::<16>(factor, list, out, 0);
+    done = add_vectors::<8>(factor, list, out, done);
+    done = add_vectors::<4>(factor, list, out, done);
+    add_singly(factor, &list[done..], &mut out[done..]);
 }
 
 impl RowUnit for WordByWord {
@@ -90,10 +75,7 @@ impl RowUnit for WordByWord {
     ghost top = { λ u. u.fits };
 
     fn row(&mut self, factor: u16, list: &[u16], out: &mut [u16]) -> Result<(), RowRefusal> {
-        let k = list.len();
-        if k < 1 || k > MOST_WORDS || out.len() != k {
-            return Err(RowRefusal::Length);
-        }
+        check(list, out)?;
         add_words(factor, list, out);
         self.served = self.served.saturating_add(1);
         Ok(())

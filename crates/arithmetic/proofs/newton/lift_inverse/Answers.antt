@@ -17,7 +17,7 @@ returns g c =
     let less = subst (λ (i : ℕ). SameMod 65536 i (integers_of v) (reduce integers i (integers_of u₄))) same c.reduce_words.ensures.difference in
     record {
       lifted =
-          lifted f c.args.u.now u₁ u₂ u₃ u₄ v c.requires.sized.some (omega arith) (λ k. omega (arith, c.type_inv.u k))
+          lifted f c.args.u.now u₁ u₂ u₃ u₄ v c.requires.sizes.0 (omega arith) (λ k. omega (arith, c.type_inv.u k))
           c.refine.ensures.step c.refine-2.ensures.step c.refine-3.ensures.step c.refine-4.ensures.step less;
       count = omega (arith, c.refine.ensures.count, c.refine-2.ensures.count, c.refine-3.ensures.count, c.refine-4.ensures.count);
     }

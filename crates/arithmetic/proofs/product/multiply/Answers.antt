@@ -1,4 +1,5 @@
 use Rattle.std.proofs.Common.{refl, arith}
+use Rattle.arithmetic.specs.Rows.{Serves}
 use Rattle.arithmetic.proofs.Products.{product_meaning}
 use Rattle.arithmetic.proofs.product.multiply.Goals as goal
 
@@ -6,6 +7,7 @@ pub returns : goal.returns
 returns g c =
     let u = c.args.u.now in
     let v = c.args.v.now in
+    let row : Serves u c.args.out.now = c.in_ok-check.ensures.served refl in
     let words = c.multiply_doubled.ensures.words v c.write_twice.ensures.twice in
     record {
       product = record {
@@ -16,6 +18,6 @@ returns g c =
           twice = c.write_twice.ensures.twice;
           count = c.multiply_doubled.ensures.count;
         };
-        refused = λ no. absurd (no (record { some = omega arith; few = omega arith; factors = omega arith; room = omega arith; result = omega arith }));
+        refused = λ no. absurd (no (record { some = row.some; few = row.few; factors = omega arith; room = omega arith; result = row.same }));
       };
     }

@@ -20,6 +20,7 @@ pub use cyclic::{WrongLength, subtract_last, times_phi1};
 pub use digit::Digit;
 pub use division::divide;
 pub use inverse::inverse_mod_phi;
+pub use loops::convert;
 pub use product::{Room, multiply, products_hold};
 pub use rings::{Field, Ring};
 pub use rows::halving::Halving;

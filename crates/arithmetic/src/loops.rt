@@ -1,5 +1,5 @@
 // Single loops over the coefficients of polynomials.
-ghost use Rattle.std.specs.Prelude.{◌≡◌, ℕ, ◌+◌, ◌<◌, ◌≤◌, length, take};
+ghost use Rattle.std.specs.Prelude.{◌≡◌, ℕ, ◌+◌, ◌<◌, ◌≤◌, length, slice_index_or};
 ghost use Rattle.euclid.specs.Inverses.{phi};
 ghost use Rattle.euclid.specs.Series.{Size, monomial, poly, polynomials};
 
@@ -65,5 +65,16 @@ pub(crate) fn add_shifted<R: Ring>(r: &mut [R], d: &[R], c: R, shift: usize)
 {
     for (i, e) in d.iter().enumerate() {
         r[shift + i] = r[shift + i].sum(c.product(*e));
+    }
+}
+
+// Converts element by element, as many as both lists have places for.
+pub fn convert<A: Copy, B: From<A> + Copy>(from: &[A], into: &mut [B])
+    ensures converted { (k : ℕ) (a : A) (b : B) → k < length from.now → k < length into.old → B.from_gives (slice_index_or from.now k a) (slice_index_or into.new k b) }
+    ensures rest_kept { (k : ℕ) (b : B) → length from.now ≤ k → slice_index_or into.new k b ≡ slice_index_or into.old k b }
+{
+    let count = from.len().min(into.len());
+    for (i, value) in from[..count].iter().enumerate() {
+        into[i] = B::from(*value);
     }
 }

@@ -10,31 +10,11 @@ ghost use Rattle.arithmetic.specs.WordInverses.{Answered, Taken};
 
 use crate::bit::Bit;
 use crate::inverse::inverse_mod_phi;
-use crate::loops::significant;
+use crate::loops::{convert, significant};
 use crate::newton::lift_inverse;
 use crate::product::Room;
 use crate::rings::Ring;
 use crate::rows::{MOST_WORDS, RowUnit};
-
-// Each word modulo 2.
-fn parities(f: &[u16], out: &mut [Bit])
-    requires { length out.old ≡ length f.now }
-    ensures { (k : ℕ) → k < length f.now → (slice_index_or out.new k (bit 0)).code ≡ slice_index f.now k % 2 }
-{
-    for (i, word) in f.iter().enumerate() {
-        out[i] = Bit::from(*word);
-    }
-}
-
-// Each bit as a word.
-fn widen(bits: &[Bit], out: &mut [u16])
-    requires { length out.old ≡ length bits.now }
-    ensures { (k : ℕ) → k < length bits.now → slice_index out.new k ≡ (slice_index_or bits.now k (bit 0)).code }
-{
-    for (i, bit) in bits.iter().enumerate() {
-        out[i] = u16::from(*bit);
-    }
-}
 
 // Each word modulo 2^width.
 fn mask_into(width: u32, words: &[u16], out: &mut [u16])
@@ -64,9 +44,9 @@ fn start_over(
     requires room { Suited (length f.now) (length b.old) (length r.old) (length s.old) (length t.old) (length v.old) }
     ensures inverse_or_none { MatchOption result (NoInverseMod 2 (length f.now) (integers_of f.now)) (λ _. InverseMod 2 (length f.now) (integers_of f.now) (integers_of u.new)) }
 {
-    parities(f, a);
+    convert(f, a);
     inverse_mod_phi(a, b, r, s, t, v)?;
-    widen(b, u);
+    convert(b, u);
     Some(())
 }
 

@@ -15,6 +15,15 @@ impl From<u16> for Digit {
     }
 }
 
+// The remainder modulo 3 that a digit is: 0, 1 or 2.
+impl From<Digit> for u16 {
+    ghost from_gives = { λ d value. value ≡ d.code };
+
+    fn from(digit: Digit) -> Self {
+        u16::from(digit.code)
+    }
+}
+
 // The number that a digit is: -1, 0 or 1.
 impl From<Digit> for i8 {
     ghost from_gives = { λ d value. value ≡ number d };

@@ -1,7 +1,6 @@
 // Inverses of polynomials of words modulo 2^w and 1 + x + .. + x^(n - 1), from inverses modulo 2.
 ghost use Rattle.std.specs.Prelude.{◌≡◌, ℕ, ◌*◌, ◌%◌, ◌^◌, ◌<◌, ◌≤◌, length, MatchOption, slice_index, slice_index_or};
 ghost use Rattle.algebra.specs.Polynomials.{InverseMod, NoInverseMod};
-ghost use Rattle.euclid.specs.Inverses.{Suited};
 ghost use Rattle.arithmetic.specs.Bits.{bit};
 ghost use Rattle.arithmetic.specs.Newton.{Lifted};
 ghost use Rattle.arithmetic.specs.Products.{integers_of};
@@ -29,49 +28,30 @@ fn mask_into(width: u32, words: &[u16], out: &mut [u16])
 }
 
 // The inverse of f modulo 2, by Euclid's method over lists of bits; nothing where there is none.
-fn start_over(
-    f: &[u16],
-    u: &mut [u16],
-    a: &mut [Bit],
-    b: &mut [Bit],
-    r: &mut [Bit],
-    s: &mut [Bit],
-    t: &mut [Bit],
-    v: &mut [Bit],
-) -> Option<()>
-    requires words { length u.old ≡ length f.now }
-    requires bits { length a.old ≡ length f.now }
-    requires room { Suited (length f.now) (length b.old) (length r.old) (length s.old) (length t.old) (length v.old) }
-    ensures inverse_or_none { MatchOption result (NoInverseMod 2 (length f.now) (integers_of f.now)) (λ _. InverseMod 2 (length f.now) (integers_of f.now) (integers_of u.new)) }
-{
-    convert(f, a);
-    inverse_mod_phi(a, b, r, s, t, v)?;
-    convert(b, u);
-    Some(())
-}
-
-// The same with lists of its own. One function for both was tried: no proof reaches the lengths of so many lists that are parts of arrays.
 fn start(f: &[u16], u: &mut [u16]) -> Option<()>
     requires sizes { (2 ≤ length f.now) × ((length f.now ≤ 1408) × (length u.old ≡ length f.now)) }
     ensures inverse_or_none { MatchOption result (NoInverseMod 2 (length f.now) (integers_of f.now)) (λ _. InverseMod 2 (length f.now) (integers_of f.now) (integers_of u.new)) }
 {
     let n = f.len();
-    let mut a = [Bit::ZERO; MOST_WORDS];
-    let mut b = [Bit::ZERO; MOST_WORDS];
+    let mut f_room = [Bit::ZERO; MOST_WORDS];
+    let mut u_room = [Bit::ZERO; MOST_WORDS];
     let mut r = [Bit::ZERO; MOST_WORDS];
     let mut s = [Bit::ZERO; MOST_WORDS];
     let mut t = [Bit::ZERO; MOST_WORDS];
     let mut v = [Bit::ZERO; MOST_WORDS];
-    start_over(
-        f,
-        u,
-        &mut a[..n],
-        &mut b[..n],
+    let f_bits = &mut f_room[..n];
+    let u_bits = &mut u_room[..n];
+    convert(f, f_bits);
+    inverse_mod_phi(
+        f_bits,
+        u_bits,
         &mut r[..n],
         &mut s[..n],
         &mut t[..n],
         &mut v[..n],
-    )
+    )?;
+    convert(u_bits, u);
+    Some(())
 }
 
 // The inverse of f modulo 2^width and 1 + x + .. + x^(n - 1), where f has n words, into `inverse`; the answer is its degree.

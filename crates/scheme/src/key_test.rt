@@ -193,7 +193,7 @@ fn test_card<U: RowUnit>(set: u8, card: &[u8], unit: &mut U) -> Result<(), Refus
     ensures answer { result ≡ outcome (tests set card.now) }
     ensures count { U.rows unit.new ≡ raised (cost (tests set card.now)) (U.rows unit.old) }
 {
-    let set = ParameterSet::from_number(set)?;
+    let set = ParameterSet::try_from(set)?;
     if card.len() != set.card {
         return Err(Refusal::InputLength);
     }

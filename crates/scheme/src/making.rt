@@ -222,7 +222,7 @@ pub(crate) fn make_drawn<U: RowUnit>(
     ensures output { MakeOutput set coins.now result out.old out.new }
     ensures count { U.rows unit.old ≤ U.rows unit.new }
 {
-    let set = ParameterSet::from_number(set)?;
+    let set = ParameterSet::try_from(set)?;
     if coins.len() != set.coins {
         return Err(Refusal::InputLength);
     }

@@ -184,7 +184,7 @@ fn open_card<U: RowUnit>(
     ensures output { pair.new ≡ left result (opened_record (length_of set) (width_of set) card.now sealed.now) pair.old }
     ensures count { U.rows unit.new ≡ raised (cost (opens set card.now sealed.now pair.old)) (U.rows unit.old) }
 {
-    let set = ParameterSet::from_number(set)?;
+    let set = ParameterSet::try_from(set)?;
     if card.len() != set.card || sealed.len() != set.word {
         return Err(Refusal::InputLength);
     }

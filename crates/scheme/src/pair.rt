@@ -19,7 +19,7 @@ pub(crate) fn write_drawn_pair(set: u8, coins: &[u8], out: &mut [u8]) -> Result<
     ensures output { out.new ≡ left result (pair_record (length_of set) coins.now) out.old }
     ensures digit_by_digit { result ≡ Ok tt → HoldsPair (length_of set) coins.now out.new }
 {
-    let set = ParameterSet::from_number(set)?;
+    let set = ParameterSet::try_from(set)?;
     if coins.len() != set.coins {
         return Err(Refusal::InputLength);
     }

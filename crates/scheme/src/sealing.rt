@@ -119,7 +119,7 @@ pub(crate) fn seal_drawn<U: RowUnit>(
     ensures output { out.new ≡ left result (sealed_record (length_of set) (width_of set) (polynomials (length_of set) (width_of set) card.now).h coins.now) out.old }
     ensures count { U.rows unit.new ≡ raised (cost (seals set card.now coins.now out.old)) (U.rows unit.old) }
 {
-    let set = ParameterSet::from_number(set)?;
+    let set = ParameterSet::try_from(set)?;
     if card.len() != set.card || coins.len() != set.coins {
         return Err(Refusal::InputLength);
     }

@@ -1,11 +1,10 @@
 -- The laws of word parts.
-use Rattle.std.proofs.Common.{◌≡◌, ℕ, ◌*◌, ◌^◌, ◌<◌, ◌≤◌, true, ◌&&◌, leb, List, length, sym, ap, ◌∙◌, subst, arith}
+use Rattle.std.proofs.Common.{◌≡◌, ℕ, ◌*◌, ◌^◌, ◌<◌, ◌≤◌, List, length, sym, ap, ◌∙◌, subst, arith}
 use Rattle.std.proofs.lemmas.Nat.{pow_pos}
-use Rattle.std.proofs.lemmas.Bool.{leb-true, and_parts}
 use Rattle.algebra.specs.Radix.{numeral, digit_at, Under}
 use Rattle.algebra.proofs.Radix.{length_digits}
 use Rattle.algebra.proofs.Regrouping.{written_in_order, read_in_order, read_alike, back, digit_past, under_map, digits_under}
-use Rattle.scheme.specs.WordParts.{shaped, word_bytes, word_part, part_words, HoldsBits, TakesBits}
+use Rattle.scheme.specs.WordParts.{word_bytes, word_part, part_words, HoldsBits, TakesBits}
 
 pub holds_bits : (w : ℕ) (cs : List ℕ) → 1 ≤ w → HoldsBits w cs (word_part w cs)
 holds_bits w cs h = record {
@@ -29,7 +28,3 @@ takes_bits w n bytes h = record {
   small = digits_under (2 ^ w) (pow_pos w) n (numeral 256 bytes);
   spare = λ others same. ap (λ m. part_words w m others) (length_words w n bytes) ∙ read_alike 2 8 w (omega arith) (omega arith) h n others bytes (λ k l. same k (subst (λ m. k < w * m) (sym (length_words w n bytes)) l));
 }
-
--- what a shape that passed its test says
-pub shape_is : (w count : ℕ) → shaped w count ≡ true → 1 ≤ w
-shape_is w count e = leb-true 1 w (and_parts (leb 1 w) (leb w 16) (and_parts (leb 1 w && leb w 16) (leb 1 count && leb count 1407) e).0).0

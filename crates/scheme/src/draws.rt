@@ -25,15 +25,8 @@ pub fn draw_pair(
     ensures second { m.new ≡ left result (drawn (drop ((set.n - 1) / 2) coins.now)) m.old }
     ensures both_ternary { result ≡ Ok tt → Ternary set.n (coefficients r.new) × Ternary set.n (coefficients m.new) }
 {
-    if coins.len() != set.coins {
-        return Err(Refusal::InputLength);
-    }
-    if r.len() != set.n || m.len() != set.n {
-        return Err(Refusal::OutputLength);
-    }
-    let half = set.coins / 2;
-    draw(&coins[0..half], r);
-    draw(&coins[half..], m);
+    may_draw(set, coins, r, m)?;
+    draw_both(set, coins, r, m);
     Ok(())
 }
 
@@ -49,9 +42,25 @@ pub fn draw_key(
     ensures second { g.new ≡ left result (settled (drawn (drop ((set.n - 1) / 2) coins.now))) g.old }
     ensures both_correlate { result ≡ Ok tt → Ternary+ set.n (coefficients f.new) × Ternary+ set.n (coefficients g.new) }
 {
-    draw_pair(set, coins, f, g)?;
-    settle_signs(f);
-    settle_signs(g);
+    may_draw(set, coins, f, g)?;
+    draw_settled(set, coins, f, g);
+    Ok(())
+}
+
+fn may_draw(
+    set: ParameterSet,
+    coins: &[u8],
+    first: &[Digit],
+    second: &[Digit],
+) -> Result<(), Refusal>
+    ensures { result ≡ verdict (draws set.n coins.now first.now second.now) }
+{
+    if coins.len() != set.coins {
+        return Err(Refusal::InputLength);
+    }
+    if first.len() != set.n || second.len() != set.n {
+        return Err(Refusal::OutputLength);
+    }
     Ok(())
 }
 
@@ -62,9 +71,9 @@ pub(crate) fn draw_both(set: ParameterSet, coins: &[u8], first: &mut [Digit], se
     ensures first { first.new ≡ drawn (first_half set.n coins.now) }
     ensures second { second.new ≡ drawn (second_half set.n coins.now) }
 {
-    let half = set.coins / 2;
-    draw(&coins[0..half], first);
-    draw(&coins[half..], second);
+    let (first_coins, second_coins) = coins.split_at(set.coins / 2);
+    draw(first_coins, first);
+    draw(second_coins, second);
 }
 
 // Draws likewise, and flips the even-numbered signs of each whose correlation is negative.

@@ -118,8 +118,8 @@ fn write_words(set: ParameterSet, h: &[u16], hq: &[u16], out: &mut [u8])
     ensures { out.new ≡ word_record set.n set.width (integers_of h.now) ++ word_record set.n set.width (integers_of hq.now) }
 {
     let word = set.word;
-    write_all_but_last(set.width, h, &mut out[0..word]);
-    write_all_but_last(set.width, hq, &mut out[word..]);
+    write_all_but_last(set.bits(), h, &mut out[0..word]);
+    write_all_but_last(set.bits(), hq, &mut out[word..]);
 }
 
 // Writes a card.

@@ -117,9 +117,9 @@ fn open_over<U: RowUnit>(
 {
     read_ternary(f, k);
     read_ternary(fp, l);
-    read_balanced(set.width, sealed, c);
+    read_balanced(set.bits(), sealed, c);
     find_m(unit, set.width, c, k, l, m, x, y, z, doubled);
-    read_padded(set.width, hq, z);
+    read_padded(set.bits(), hq, z);
     // The lists of f and fp are free again.
     if !find_r(unit, set.width, c, m, z, k, l, x, y, doubled) {
         return false;

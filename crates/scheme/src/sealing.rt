@@ -70,9 +70,9 @@ fn seal_over<U: RowUnit>(
     ensures count { U.rows unit.new ≡ raised set.n (U.rows unit.old) }
 {
     draw_both(set, coins, r, m);
-    read_balanced(set.width, h, key);
+    read_balanced(set.bits(), h, key);
     encrypt(unit, r, m, key, c, s, x, y, doubled);
-    write_all_but_last(set.width, c, out);
+    write_all_but_last(set.bits(), c, out);
 }
 
 // The same with lists of its own.

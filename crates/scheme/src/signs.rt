@@ -36,9 +36,9 @@ pub(crate) fn correlates(v: &[Digit]) -> bool
 fn flip_signs(v: &mut [Digit])
     ensures { v.new ≡ flipped v.old }
 {
-    for i in 0..v.len() {
+    for (i, d) in v.iter_mut().enumerate() {
         if i % 2 == 0 {
-            v[i] = v[i].negation();
+            *d = d.negation();
         }
     }
 }

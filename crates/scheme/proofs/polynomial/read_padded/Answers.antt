@@ -6,7 +6,7 @@ use Rattle.scheme.proofs.polynomial.read_padded.Goals as goal
 
 pub returns : goal.returns
 returns c =
-    let w = c.args.width in
+    let w = c.args.width.bits in
     let out = c.args.out.now in
     let n = length out in
     let bytes = c.args.bytes.now in

@@ -6,7 +6,7 @@ use Rattle.scheme.proofs.polynomial.write_all_but_last.Goals as goal
 
 pub returns : goal.returns
 returns c =
-    let w = c.args.width in
+    let w = c.args.width.bits in
     let p = c.args.polynomial.now in
     let front : length p - 1 - 0 ≡ length p - 1 = omega arith in
     let output = c.pack_words.ensures ∙ ap (λ k. word_part w (take k p)) front in

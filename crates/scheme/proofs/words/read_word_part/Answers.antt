@@ -1,6 +1,6 @@
-use Rattle.std.proofs.Common.{length, sym, ◌∙◌, subst, rules}
+use Rattle.std.proofs.Common.{◌≤◌, arith, length, sym, subst, rules}
 use Rattle.scheme.specs.WordParts.{TakesBits}
-use Rattle.scheme.proofs.WordBytes.{shape_is, takes_bits}
+use Rattle.scheme.proofs.WordBytes.{takes_bits}
 use Rattle.scheme.proofs.words.read_word_part.Goals as goal
 
 pub returns : goal.returns
@@ -8,8 +8,9 @@ returns c =
     let w = c.args.width in
     let count = length c.args.out.now in
     let bytes = c.args.bytes.now in
-    let wide = shape_is w count (sym c.has_shape.ensures ∙ c.if-not-has_shape.false) in
-    let written = c.unpack_words.ensures in
+    let found = c.in_ok-width.ensures in
+    let wide : 1 ≤ w = omega arith in
+    let written = rw found.1 at c.unpack_words.ensures in
     record {
       answer = search rules;
       output = written;

@@ -1,14 +1,15 @@
-use Rattle.std.proofs.Common.{length, sym, ap, ◌∙◌, subst, rules}
+use Rattle.std.proofs.Common.{◌≤◌, arith, length, sym, ap, ◌∙◌, subst, rules}
 use Rattle.scheme.specs.WordParts.{HoldsBits, part_words}
-use Rattle.scheme.proofs.WordBytes.{shape_is, holds_bits, words_back}
+use Rattle.scheme.proofs.WordBytes.{holds_bits, words_back}
 use Rattle.scheme.proofs.words.write_word_part.Goals as goal
 
 pub returns : goal.returns
 returns c =
     let w = c.args.width in
     let cs = c.args.coefficients.now in
-    let wide = shape_is w (length cs) (sym c.has_shape.ensures ∙ c.if-not-has_shape.false) in
-    let written = c.pack_words.ensures in
+    let found = c.in_ok-width.ensures in
+    let wide : 1 ≤ w = omega arith in
+    let written = rw found.1 at c.pack_words.ensures in
     record {
       answer = search rules;
       output = written;

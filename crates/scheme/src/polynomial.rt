@@ -16,11 +16,9 @@ pub(crate) const LONGEST: usize = 1408;
 fn sum_words(words: &[u16]) -> u16
     ensures { result ≡ sum words.now % 65536 }
 {
-    let mut total: u16 = 0;
-    for word in words {
-        total = total.wrapping_add(*word);
-    }
-    total
+    words
+        .iter()
+        .fold(0u16, |total, word| total.wrapping_add(*word))
 }
 
 // A polynomial whose coefficients have the sum 0 modulo 2^width, as h and a sealed one: the sum gives the last.

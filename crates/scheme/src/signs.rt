@@ -19,8 +19,8 @@ fn correlate(v: &[Digit]) -> i32
     ensures { result ≡ correlation (length v.now) (coefficients v.now) }
 {
     let mut total: i32 = 0;
-    for i in 0..v.len().saturating_sub(2) {
-        total += neighbours(v[i], v[i + 1]);
+    for pair in v[0..v.len().saturating_sub(1)].windows(2) {
+        total += neighbours(pair[0], pair[1]);
     }
     total
 }

@@ -68,12 +68,7 @@ pub(crate) fn pack(digits: &[Digit], out: &mut [u8])
 pub(crate) fn all_hold_digits(bytes: &[u8]) -> bool
     ensures { result ≡ holds_digits bytes.now }
 {
-    for b in bytes {
-        if *b > GREATEST {
-            return false;
-        }
-    }
-    true
+    bytes.iter().all(|b| *b <= GREATEST)
 }
 
 pub(crate) fn unpack(bytes: &[u8], out: &mut [Digit])

@@ -1,10 +1,11 @@
 -- Steps of the loops that regroup digits five to a byte, and the laws of ternary parts.
 use Rattle.std.proofs.Common.{◌≡◌, ℕ, zero, suc, ◌+◌, ◌*◌, ◌/◌, ◌%◌, ◌^◌, ◌<◌, ◌≤◌, List, [], ◌∷◌, ◌++◌, map, length, get_or, take, set, sym, refl, ap, ◌∙◌, mod-eq_of_lt, subst, append_assoc, arith, length-take, length-append, length-set, min, ap₂}
-use native.Mathlib.Nat.{div-eq_of_lt, add-mul-mod_self_left, add-mul-div_left, zero-add, pow-le-pow_right, pow-succ', pow-zero, mul-add, mul_assoc, mul_comm}
+use native.Mathlib.Nat.{div-eq_of_lt, add-mul-mod_self_left, add-mul-div_left, zero-add, pow-le-pow_right, pow-zero, mul_comm}
 use Rattle.std.proofs.lemmas.List.{get_or-map, length-map, map-append, get_or_past, take_more, take_more_set, take_all, append-nil}
 use Rattle.algebra.specs.Radix.{numeral, digits, digit_at, Under}
 use Rattle.algebra.proofs.Radix.{numeral_lt, length_digits}
 use Rattle.algebra.proofs.Regrouping.{written_in_order, read_in_order, read_alike, back, under_map, digits_under}
+use Rattle.scheme.proofs.Numerals.{numeral_append, numeral_push}
 use Rattle.arithmetic.specs.Digits.{digit}
 use Rattle.arithmetic.specs.declared.digit.Digit.{Digit}
 use Rattle.arithmetic.proofs.Digits.{digit_code}
@@ -15,19 +16,6 @@ digits_codes [] = refl
 digits_codes (d ∷ ds) = rw (digit_code d, digits_codes ds) refl
 
 -- ---- one byte of a part
-pub numeral_none : 0 ≡ numeral 3 []
-unfolding numeral
-numeral_none = refl
-
-numeral_append : (xs ys : List ℕ) → numeral 3 (xs ++ ys) ≡ numeral 3 xs + 3 ^ length xs * numeral 3 ys
-unfolding numeral
-numeral_append [] ys = rw pow-zero (omega arith)
-numeral_append (x ∷ xs) ys = rw (numeral_append xs ys, pow-succ') (omega (arith, mul-add 3 (numeral 3 xs) (3 ^ length xs * numeral 3 ys), mul_assoc 3 (3 ^ length xs) (numeral 3 ys)))
-
-numeral_one : (y : ℕ) → y < 3 → numeral 3 (y ∷ []) ≡ y
-unfolding numeral
-numeral_one y h = rw (mod-eq_of_lt h) (omega arith)
-
 length_codes : (ds : List Digit) → length (codes ds) ≡ length ds
 length_codes ds = length-map ds (λ x. x.code)
 
@@ -55,7 +43,7 @@ byte_more five i byte y d short h e inv =
     let front = take i five in
     let long : length (codes front) ≡ i = length_codes front ∙ simp length-take (omega arith) in
     let same : byte + y * get_or (1 ∷ 3 ∷ 9 ∷ 27 ∷ 81 ∷ []) i 0 ≡ numeral 3 (codes (take (i + 1) five)) =
-    rw (take_more five i d h, map-append, numeral_append, numeral_one (get_or five i d).code (get_or five i d).small, long, power i (omega arith), ← e, ← inv) (omega (arith, mul_comm y (3 ^ i))) in
+    rw (take_more five i d h, map-append, numeral_push 3 (codes front) (get_or five i d).code (get_or five i d).small, long, power i (omega arith), ← e, ← inv) (omega (arith, mul_comm y (3 ^ i))) in
     (omega (arith, same, byte_small (take (i + 1) five) (simp length-take (omega arith))), same)
 
 -- ---- a part, byte by byte
@@ -82,7 +70,7 @@ five_first five (m ∷ ms) e h =
     let full : length five ≡ 5 = omega (arith, long, e) in
     let next : part_bytes (length (five ++ more)) ≡ suc (part_bytes (length more)) = omega (arith, long, full) in
     let all : numeral 3 (codes (five ++ more)) ≡ v + 243 * numeral 3 (codes more) =
-    ap (numeral 3) (map-append (λ d. d.code) five more) ∙ numeral_append (codes five) (codes more) ∙ ap (λ k. v + 3 ^ k * numeral 3 (codes more)) (length_codes five ∙ full) in
+    ap (numeral 3) (map-append (λ d. d.code) five more) ∙ numeral_append 3 (codes five) (codes more) ∙ ap (λ k. v + 3 ^ k * numeral 3 (codes more)) (length_codes five ∙ full) in
     ap₂ (digits 243) next all ∙ first_byte (part_bytes (length more)) v (numeral 3 (codes more)) (byte_small five (omega arith))
 
 -- one byte more of a part, where i are written and `rest` is left of the digits

@@ -1,9 +1,10 @@
 use Rattle.std.proofs.Common.{ap, ◌∙◌, arith}
-use Rattle.scheme.proofs.TernaryDigits.{numeral_none, byte_more}
+use Rattle.scheme.proofs.Numerals.{numeral_none}
+use Rattle.scheme.proofs.TernaryDigits.{byte_more}
 use Rattle.scheme.proofs.ternary.packed.Goals as goal
 
 pub loop-i-init : goal.loop-i-init
-loop-i-init c = numeral_none
+loop-i-init c = numeral_none 3
 
 pub overflow_add-byte : goal.overflow_add-byte
 overflow_add-byte c =

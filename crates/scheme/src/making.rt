@@ -10,7 +10,7 @@ ghost use Rattle.scheme.specs.Making.{CardOf, MakeAnswer, MakeOutput, NoCard, Pu
 ghost use Rattle.scheme.specs.WordPolynomials.{word_record};
 
 use crate::coefficients::signed_words;
-use crate::draws::draw_settled;
+use crate::draws::{Coins, draw_settled};
 use crate::polynomial::{LONGEST, write_all_but_last};
 use crate::refusal::Refusal;
 use crate::set::ParameterSet;
@@ -162,7 +162,7 @@ fn make_card_over<U: RowUnit>(
     ensures none { result ≡ false → NoCard set.n set.width coins.now × (out.new ≡ out.old) }
     ensures count { U.rows unit.old ≤ U.rows unit.new }
 {
-    draw_settled(set, coins, f, g);
+    draw_settled(Coins { set, bytes: coins }, f, g);
     if !make_over(unit, set.width, f, g, fp, h, hq, r, s, t, v, x, y, doubled) {
         return false;
     }

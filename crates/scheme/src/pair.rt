@@ -4,7 +4,7 @@ ghost use Rattle.scheme.specs.Pairs.{HoldsPair, pair_record, pairs};
 ghost use Rattle.scheme.specs.Refusals.{left, verdict};
 ghost use Rattle.scheme.specs.Sets.{length_of};
 
-use crate::draws::draw_both;
+use crate::draws::{Coins, draw_both};
 use crate::polynomial::LONGEST;
 use crate::refusal::Refusal;
 use crate::set::ParameterSet;
@@ -18,40 +18,22 @@ pub(crate) fn write_drawn_pair(set: u8, coins: &[u8], out: &mut [u8]) -> Result<
     ensures digit_by_digit { result ≡ Ok tt → HoldsPair (length_of set) coins.now out.new }
 {
     let set = ParameterSet::try_from(set)?;
-    if coins.len() != set.coins {
-        return Err(Refusal::InputLength);
-    }
+    let coins = Coins::new(set, coins)?;
     if out.len() != set.pair {
         return Err(Refusal::OutputLength);
     }
-    write_both(set, coins, out);
+    write_both(coins, out);
     Ok(())
 }
 
-// Draws the pair and writes it, with lists of its own.
-fn write_both(set: ParameterSet, coins: &[u8], out: &mut [u8])
-    requires coins { length coins.now ≡ set.coins }
-    requires room { length out.old ≡ set.pair }
-    ensures { out.new ≡ pair_record set.n coins.now }
+// Draws the pair and writes it.
+fn write_both(coins: Coins<'_>, out: &mut [u8])
+    requires { length out.old ≡ coins.set.pair }
+    ensures { out.new ≡ pair_record coins.entry.set.n coins.entry.bytes.now }
 {
-    let n = set.n;
+    let n = coins.set.n;
     let mut r = [Digit::ZERO; LONGEST];
     let mut m = [Digit::ZERO; LONGEST];
-    write_both_over(set, coins, out, &mut r[0..n], &mut m[0..n]);
-}
-
-fn write_both_over(
-    set: ParameterSet,
-    coins: &[u8],
-    out: &mut [u8],
-    r: &mut [Digit],
-    m: &mut [Digit],
-)
-    requires coins { length coins.now ≡ set.coins }
-    requires room { length out.old ≡ set.pair }
-    requires digits { (length r.old ≡ set.n) × (length m.old ≡ set.n) }
-    ensures { out.new ≡ pair_record set.n coins.now }
-{
-    draw_both(set, coins, r, m);
-    write_pair(set, r, m, out);
+    draw_both(coins, &mut r[0..n], &mut m[0..n]);
+    write_pair(coins.set, &r[0..n], &m[0..n], out);
 }

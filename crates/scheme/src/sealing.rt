@@ -13,7 +13,7 @@ ghost use Rattle.scheme.specs.WordPolynomials.{balanced_polynomial};
 
 use crate::card::split_card;
 use crate::coefficients::signed_words;
-use crate::draws::draw_both;
+use crate::draws::{Coins, draw_both};
 use crate::lifting::{lift, times_phi1_words};
 use crate::polynomial::{LONGEST, read_balanced, write_all_but_last};
 use crate::refusal::Refusal;
@@ -69,7 +69,7 @@ fn seal_over<U: RowUnit>(
     ensures output { out.new ≡ sealed_record set.n set.width (balanced_polynomial set.n set.width h.now) coins.now }
     ensures count { U.rows unit.new ≡ raised set.n (U.rows unit.old) }
 {
-    draw_both(set, coins, r, m);
+    draw_both(Coins { set, bytes: coins }, r, m);
     read_balanced(set.bits(), h, key);
     encrypt(unit, r, m, key, c, s, x, y, doubled);
     write_all_but_last(set.bits(), c, out);

@@ -1,8 +1,7 @@
-use Rattle.std.proofs.Common.{sym, subst}
+use Rattle.std.proofs.Common.{sym, ◌∙◌, subst}
 use Rattle.algebra.specs.Ternary.{Ternary}
 use Rattle.arithmetic.specs.Digits.{coefficients}
 use Rattle.scheme.proofs.DrawnSigns.{first_ternary, second_ternary}
-use Rattle.scheme.proofs.Verdicts.{coins_fit}
 use Rattle.scheme.proofs.draws.draw_pair.Goals as goal
 
 pub returns-clause-both_ternary : goal.returns-clause-both_ternary
@@ -10,7 +9,11 @@ returns-clause-both_ternary c _ =
     let set = c.args.set in
     let n = set.n in
     let coins = c.args.coins.now in
-    let long = coins_fit n coins c.args.r.now c.args.m.now c.in_ok-may_draw.ensures in (
-      subst (λ ds. Ternary n (coefficients ds)) (sym c.draw_both.ensures.first) (first_ternary n coins set.length.0 set.coprime.0 long),
-      subst (λ ds. Ternary n (coefficients ds)) (sym c.draw_both.ensures.second) (second_ternary n coins set.length.0 set.coprime.0 long),
+    let found = c.in_ok-coins.ensures in
+    let long = found.0 ∙ set.records.2 in
+    let first = rw (found.1, found.2) at c.draw_both.ensures.first in
+    let second = rw (found.1, found.2) at c.draw_both.ensures.second in
+    (
+      subst (λ ds. Ternary n (coefficients ds)) (sym first) (first_ternary n coins set.length.0 set.coprime.0 long),
+      subst (λ ds. Ternary n (coefficients ds)) (sym second) (second_ternary n coins set.length.0 set.coprime.0 long),
     )

@@ -10,10 +10,11 @@ returns c =
     let out = c.args.out.now in
     let set = c.in_ok-set.set in
     let found = c.in_ok-set.ensures in
+    let all = c.in_ok-coins.ensures in
     let n : set.n ≡ length_of c.args.set = found.1 in
-    let long : length coins ≡ set.n - 1 = c.if-coins-set.false ∙ set.records.2 in
+    let long : length coins ≡ set.n - 1 = all.0 ∙ set.records.2 in
     let room : length out ≡ pair_bytes set.n = c.if-out-set.false ∙ set.records.1 ∙ ap (λ t. 2 * t) set.parts.0 in
-    let written = c.write_both.ensures in
+    let written = rw (all.1, all.2) at c.write_both.ensures in
     record {
       answer = pairs_served c.args.set coins out found.0 (long ∙ ap coin_bytes n) (room ∙ ap pair_bytes n);
       output = written ∙ ap (λ k. pair_record k coins) n;

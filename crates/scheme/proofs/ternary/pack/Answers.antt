@@ -1,23 +1,8 @@
-use Rattle.std.proofs.Common.{◌≡◌, ◌++◌, length, take, ap, ◌∙◌, arith, min, ◌+◌}
-use Rattle.std.specs.Slice.Iter.{chunks_rest, chunks_size}
-use Rattle.std.specs.Iterator.Adapters.{enumerate_source, enumerate_count}
+use Rattle.std.proofs.Common.{◌≡◌, length, ap, ◌∙◌, min, ◌+◌}
+use Rattle.std.specs.Slice.Iter.{chunks_rest}
 use Rattle.scheme.specs.TernaryParts.{ternary_part}
 use Rattle.scheme.proofs.TernaryDigits.{part_more, part_done}
 use Rattle.scheme.proofs.ternary.pack.Goals as goal
-
-pub loop-i-init : goal.loop-i-init
-loop-i-init c =
-    let out = c.args.out.now in
-    let it = c.into_iter-i-iterator.result in
-    let e = c.into_iter-i-iterator.ensures.into_iter_gives in
-    let zero : it.count ≡ 0 = ap enumerate_count e ∙ c.enumerate-i-items.ensures.count in
-    let source : it.iter ≡ c.chunks.result = ap enumerate_source e ∙ c.enumerate-i-items.ensures.source in
-    let rest : chunks_rest it.iter ≡ c.args.digits.now = ap chunks_rest source ∙ c.chunks.ensures.rest in
-    record {
-      five = ap chunks_size source ∙ c.chunks.ensures.size;
-      room = omega (arith, zero, ap length rest, c.requires);
-      written = ap (λ k. take k out ++ ternary_part (chunks_rest it.iter)) zero ∙ ap ternary_part rest;
-    }
 
 pub loop-i-preserved : goal.loop-i-preserved
 loop-i-preserved c =

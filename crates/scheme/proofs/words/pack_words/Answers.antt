@@ -1,4 +1,4 @@
-use Rattle.std.proofs.Common.{◌≡◌, ◌+◌, ◌*◌, ◌%◌, ◌^◌, ◌<◌, length, get_or, ap, ◌∙◌, arith, rules}
+use Rattle.std.proofs.Common.{◌≡◌, ◌+◌, ◌*◌, ◌%◌, ◌^◌, ◌<◌, length, get_or, ap, ◌∙◌, arith}
 use Rattle.std.proofs.lemmas.Nat.{and_mask, pow_below}
 use Rattle.algebra.specs.Radix.{digits, numeral}
 use Rattle.algebra.proofs.Radix.{regroups_all, regroups_last}
@@ -17,12 +17,6 @@ loop-held-init c =
 
 within : (c : goal.In-loop-held) → c.loop-held.at < length c.loop-held.out
 within c = omega (arith, times_more c.args.width.bits c.loop-c.c-index, times_below c.args.width.bits c.loop-c.c-index _ c.loop-c-test.true)
-
-pub bounds-out-at : goal.bounds-out-at
-bounds-out-at c = within c
-
-pub overflow_add-at : goal.overflow_add-at
-overflow_add-at c = let h = within c in search rules
 
 pub loop-held-preserved : goal.loop-held-preserved
 loop-held-preserved c =

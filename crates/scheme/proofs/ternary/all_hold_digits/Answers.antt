@@ -1,8 +1,0 @@
-use Rattle.std.proofs.Common.{leb, rules}
-use borrow.Author.Tests.{tests}
-use Rattle.std.proofs.lemmas.Iterator.{YieldsList-from_slice}
-use Rattle.std.proofs.lemmas.Iterator.Search.{all_from_yields_List}
-use Rattle.scheme.proofs.ternary.all_hold_digits.Goals as goal
-
-pub returns : goal.returns
-returns c = all_from_yields_List (λ b. leb b 0xF2) _ _ _ c.all.ensures.ran (YieldsList-from_slice c.args.bytes.now cc) (λ x b q k. search (rules, tests))

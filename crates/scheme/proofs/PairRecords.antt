@@ -1,15 +1,13 @@
 -- Pair records: what is written of two drawn polynomials, and the digits that the record holds.
-use Rattle.std.proofs.Common.{◌≡◌, ℕ, ◌+◌, ◌-◌, ◌/◌, ◌%◌, ◌≤◌, true, List, [], ◌∷◌, length, take, drop, Ok, sym, refl, ap, ◌∙◌, subst, arith, length-take, length-drop}
+use Rattle.std.proofs.Common.{◌≡◌, ℕ, ◌+◌, ◌-◌, ◌/◌, ◌%◌, ◌≤◌, List, [], ◌∷◌, length, take, drop, sym, ap, ◌∙◌, subst, arith, length-take, length-drop}
 use Rattle.std.proofs.lemmas.List.{take_at, drop_at, length_push}
-use Rattle.std.proofs.lemmas.Bool.{eq-eqb}
 use Rattle.algebra.proofs.Cyclic.{cyclic_laws}
 use Rattle.algebra.proofs.Integers.{integer_laws}
 use Rattle.arithmetic.specs.Digits.{digit, coefficients}
 use Rattle.arithmetic.specs.declared.digit.Digit.{Digit}
 use Rattle.scheme.specs.Coins.{coin_list, drawn, first_half, second_half}
-use Rattle.scheme.specs.Pairs.{r_digits, m_digits, pair_record, HoldsPair, pairs}
-use Rattle.scheme.specs.Refusals.{verdict}
-use Rattle.scheme.specs.Sets.{known, length_of, ternary_bytes, pair_bytes, coin_bytes}
+use Rattle.scheme.specs.Pairs.{r_digits, m_digits, pair_record, HoldsPair}
+use Rattle.scheme.specs.Sets.{ternary_bytes}
 use Rattle.scheme.specs.TernaryParts.{ternary_part, HoldsDigits}
 use Rattle.scheme.specs.TernaryPolynomials.{ternary_record}
 use Rattle.scheme.proofs.DrawnSigns.{length_coins}
@@ -47,6 +45,3 @@ module _ (n : ℕ) (coins : List ℕ) (some : 2 ≤ n) (odd : n % 2 ≡ 1) (long
     first = subst (HoldsDigits (r_digits n coins)) (sym (take_at (ternary_part (r_digits n coins)) (ternary_part (m_digits n coins)) (ternary_bytes n) part_length)) (holds_each (r_digits n coins));
     second = subst (HoldsDigits (m_digits n coins)) (sym (drop_at (ternary_part (r_digits n coins)) (ternary_part (m_digits n coins)) (ternary_bytes n) part_length)) (holds_each (m_digits n coins));
   }
-
-pub pairs_served : (set : ℕ) (coins out : List ℕ) → known set ≡ true → length coins ≡ coin_bytes (length_of set) → length out ≡ pair_bytes (length_of set) → Ok tt ≡ verdict (pairs set coins out)
-pairs_served set coins out k c o = sym (rw (k, eq-eqb (length coins) (coin_bytes (length_of set)) c, eq-eqb (length out) (pair_bytes (length_of set)) o) refl)

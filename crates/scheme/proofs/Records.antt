@@ -70,9 +70,6 @@ module _ (bytes : List ℕ) (xs front : List Digit) (z : Digit) (some : 1 ≤ le
       let front_is : front ≡ ternary_digits (n - 1) bytes = filled ∙ ap (λ k. ternary_digits k bytes) short in
       write_last xs front (n - 1) z (omega arith) (ap length front_is ∙ length_ternary (n - 1) bytes) ∙ ap (λ ds. ds ++ z ∷ []) front_is ∙ ap (λ d. ternary_digits (n - 1) bytes ++ d ∷ []) (same_digit z (digit 0) zero_code)
 
-  pub written_ternary : Ternary (length xs) (coefficients (set (front ++ post_of 0 (length xs - 1 - 0) xs) (length xs - 1) z))
-  written_ternary = subst (λ ds. Ternary (length xs) (coefficients ds)) (sym ended_written) (ended_ternary (length xs) bytes)
-
 -- ---- seal
 pub sealed_bytes : (n w : ℕ) (coins h key c out : List ℕ) (r m : List Digit) (entry : ℕ) → w ≤ 16 → length r ≡ n → length c ≡ n → entry ≡ n →
     r ≡ drawn (first_half n coins) → m ≡ drawn (second_half n coins) → key ≡ balanced w (part_words w (entry - 1) h) →

@@ -48,7 +48,7 @@ pub fn draw_pair(
     ensures both_ternary { result ≡ Ok tt → Ternary set.n (coefficients r.new) × Ternary set.n (coefficients m.new) }
 {
     let coins = Coins::new(set, coins)?;
-    has_room(set, r, m)?;
+    check_room(set, r, m)?;
     draw_both(coins, r, m);
     Ok(())
 }
@@ -66,12 +66,12 @@ pub fn draw_key(
     ensures both_correlate { result ≡ Ok tt → Ternary+ set.n (coefficients f.new) × Ternary+ set.n (coefficients g.new) }
 {
     let coins = Coins::new(set, coins)?;
-    has_room(set, f, g)?;
+    check_room(set, f, g)?;
     draw_settled(coins, f, g);
     Ok(())
 }
 
-fn has_room(set: ParameterSet, first: &[Digit], second: &[Digit]) -> Result<(), Refusal>
+fn check_room(set: ParameterSet, first: &[Digit], second: &[Digit]) -> Result<(), Refusal>
     ensures { result ≡ verdict (room set.n first.now second.now) }
 {
     if first.len() != set.n || second.len() != set.n {

@@ -32,7 +32,7 @@ pub struct ParameterSet {
 }
 
 impl ParameterSet {
-    // The bits of a coefficient, of which there are 2 or more as n is.
+    // How many bits a coefficient has.
     pub(crate) fn bits(self) -> Width
         ensures { result.bits ≡ self.width }
     {

@@ -54,6 +54,8 @@ pub(crate) fn pack_words(width: Width, coefficients: &[u16], out: &mut [u8])
     requires { length out.old ≡ word_bytes width.bits (length coefficients.now) }
     ensures { out.new ≡ word_part width.bits coefficients.now }
 {
+    // Bytes are counted by hand: one takes bits of up to eight coefficients, so that neither list can lead the other in step,
+    // and of bytes that `out.iter_mut()` gave a proof knows nothing later.
     let mut bits: u32 = 0;
     let mut held: u32 = 0;
     let mut at: usize = 0;

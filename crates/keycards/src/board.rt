@@ -31,7 +31,7 @@ pub(crate) fn open(
 }
 
 fn open_bytes(heap: Global, number: u8, card: &[u8], sealed: &[u8]) -> Result<Vec<u8>, Trouble> {
-    let size = match ParameterSet::from_number(number) {
+    let size = match ParameterSet::try_from(number) {
         Ok(set) => set.pair,
         Err(_) => 0,
     };

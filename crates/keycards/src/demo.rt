@@ -20,7 +20,7 @@ fn pair(rt: &HostRuntime) -> Result<(), Trouble> {
     let heap = rt.alloc();
     let mut coins = [0x01u8, 0x04, 0x10, 0x01];
     println!(rt; "1. Four coins are drawn: {}", hex(heap, &coins)?)?;
-    let set = ParameterSet::from_number(SET)?;
+    let set = ParameterSet::try_from(SET)?;
     let mut r = [Digit::ZERO; 5];
     let mut m = [Digit::ZERO; 5];
     draw_pair(set, &coins, &mut r, &mut m)?;
@@ -79,7 +79,7 @@ fn refusals(rt: &HostRuntime) -> Result<(), Trouble> {
 fn signs(rt: &HostRuntime) -> Result<(), Trouble> {
     let heap = rt.alloc();
     let coins = [0x31u8, 0x00, 0x01, 0x00];
-    let set = ParameterSet::from_number(SET)?;
+    let set = ParameterSet::try_from(SET)?;
     let mut f = [Digit::ZERO; 5];
     let mut g = [Digit::ZERO; 5];
     draw_pair(set, &coins, &mut f, &mut g)?;

@@ -19,7 +19,7 @@ pub enum Task {
 impl Task {
     // The bytes of what is made; none where there is no such set.
     fn size(&self, number: u8) -> usize {
-        let Ok(set) = ParameterSet::from_number(number) else {
+        let Ok(set) = ParameterSet::try_from(number) else {
             return 0;
         };
         match self {

@@ -1,8 +1,8 @@
--- The coin table holds the four-bit rule, and one turn of a draw.
-use Rattle.std.proofs.Common.{◌≡◌, ℕ, zero, suc, ◌+◌, ◌*◌, ◌/◌, ◌%◌, ◌<◌, ◌≤◌, List, [], ◌∷◌, ◌++◌, map, length, get_or, take, drop, set, ℤ, pos, negsuc, ◌+ℤ◌, ◌*ℤ◌, sym, refl, ap, ◌∙◌, append_assoc, arith, length-set}
+-- The coin table holds the four-bit rule, and what a draw leaves.
+use Rattle.std.proofs.Common.{◌≡◌, ℕ, zero, suc, ◌+◌, ◌*◌, ◌<◌, ◌≤◌, List, [], ◌++◌, map, length, get_or, take, drop, set, ℤ, pos, negsuc, ◌+ℤ◌, ◌*ℤ◌, sym, refl, ap, ◌∙◌, arith, length-set}
 use Rattle.std.specs.List.{range_with_len}
-use Rattle.std.proofs.lemmas.List.FromFn.{get_or-map-range_with_len}
-use Rattle.std.proofs.lemmas.List.{take_more_set, at_drop_more, at_drop_all, append-nil, take_all}
+use Rattle.std.proofs.lemmas.List.FromFn.{get_or-map-range_with_len, length-map-range_with_len}
+use Rattle.std.proofs.lemmas.List.{get_or-map, length-map, take_more_set, at_drop_all, append-nil, take_all}
 use Rattle.arithmetic.specs.Digits.{digit, number}
 use Rattle.arithmetic.specs.declared.digit.Digit.{Digit}
 use Rattle.arithmetic.proofs.Digits.{same_digit}
@@ -26,17 +26,12 @@ pub by_the_rule : (h : ℕ) → h < 16 → ByTheRule h (coin h)
 unfolding carry
 by_the_rule h lt = record { same_class = record { by = carry (balance h); is = agree_below (λ i. number (coin i)) (λ i. balance i +ℤ pos 3 *ℤ carry (balance i)) 16 h refl lt } }
 
-pub draw_more :
-    (i : ℕ) (coins : List ℕ) (out D : List Digit) (a b : Digit) → i < length coins → 2 * i + 1 < length out
-    → a ≡ coin (get_or coins i 0 % 16) → b ≡ coin (get_or coins i 0 / 16)
-    → take (2 * i) out ++ coin_list (drop i coins) ≡ D
-    → take (2 * (i + 1)) (set (set out (2 * i) a) (2 * i + 1) b) ++ coin_list (drop (i + 1) coins) ≡ D
-draw_more i coins out D a b h r ea eb inv =
-    let next : coin_list (drop i coins) ≡ coin (get_or coins i 0 % 16) ∷ (coin (get_or coins i 0 / 16) ∷ coin_list (drop (i + 1) coins)) = at_drop_more coin_list coins i 0 h in
-    let two : 2 * (i + 1) ≡ 2 * i + 1 + 1 = omega arith in
-    let t1 = take_more_set out (2 * i) a (omega arith) in
-    let t2 = take_more_set (set out (2 * i) a) (2 * i + 1) b (simp length-set r) in
-    rw (two, t2, t1, append_assoc, append_assoc, ea, eb) (rw next at inv)
+-- what a table gives whose codes are those of the sixteen halves, as antt computes of the code's
+pub table_read : (table : List Digit) (d : Digit) (h : ℕ) → map (λ x. x.code) table ≡ map (λ i. (coin i).code) (range_with_len 0 16) → h < 16 → get_or table h d ≡ coin h
+table_read table d h e lt =
+    let long : length table ≡ 16 = sym (length-map table (λ x. x.code)) ∙ ap length e ∙ length-map-range_with_len (λ i. (coin i).code) 0 16 in
+    same_digit (get_or table h d) (coin h)
+    (sym (get_or-map (λ x. x.code) table h d 0 (omega arith)) ∙ ap (λ cs. get_or cs h 0) e ∙ get_or-map-range_with_len (λ i. (coin i).code) 0 16 h h 0 lt (omega arith))
 
 pub draw_all :
     (i : ℕ) (coins : List ℕ) (out : List Digit) (z : Digit) → length coins ≤ i → 2 * i + 1 ≡ length out → z.code ≡ 0

@@ -1,5 +1,5 @@
 -- Drawn polynomials are in T, and their signs are settled so that they are in T+.
-use Rattle.std.proofs.Common.{◌≡◌, ℕ, zero, suc, ◌+◌, ◌-◌, ◌*◌, ◌/◌, ◌%◌, ◌<◌, ◌≤◌, Bool, true, false, cond, eqb, ◌≢◌, List, [], ◌∷◌, length, get_or, take, drop, ℤ, pos, negsuc, ◌+ℤ◌, ◌*ℤ◌, neg_ℤ, nat_abs, ◌≤ℤ◌, sym, refl, ap, ◌∙◌, subst, inl, inr, add-one, arith, length-drop, length-take, w8, w32, to_z, of_z, below_more}
+use Rattle.std.proofs.Common.{◌≡◌, ℕ, suc, ◌+◌, ◌-◌, ◌*◌, ◌/◌, ◌%◌, ◌<◌, ◌≤◌, Bool, true, false, cond, eqb, ◌≢◌, List, [], ◌∷◌, length, get_or, take, drop, ℤ, pos, negsuc, ◌+ℤ◌, ◌*ℤ◌, neg_ℤ, nat_abs, ◌≤ℤ◌, sym, refl, ap, ◌∙◌, subst, inl, inr, add-one, arith, length-drop, length-take, w32, to_z, of_z, below_more}
 use mathlib.Core.Path.{fun_ext}
 use borrow.Author.Differences.{ints}
 use Rattle.std.proofs.lemmas.List.FromFn.{get_or-map-range_with_len, length-map-range_with_len}
@@ -10,9 +10,8 @@ use Rattle.algebra.specs.Ternary.{Ternary, Ternary+, correlation}
 use Rattle.algebra.specs.Scheme.{flip}
 use Rattle.algebra.proofs.Flips.{flipped_is}
 use Rattle.arithmetic.specs.Digits.{digit, number, negated, coefficients}
-use Rattle.algebra.specs.Stands.{signed}
 use Rattle.arithmetic.specs.declared.digit.Digit.{Digit}
-use Rattle.arithmetic.proofs.Digits.{byte_number, number_small, number_negated}
+use Rattle.arithmetic.proofs.Digits.{number_small, number_negated}
 use Rattle.scheme.specs.Coins.{halves, coin_list, drawn}
 use Rattle.scheme.specs.Signs.{flipped_at, flipped, negative, settled}
 
@@ -31,38 +30,6 @@ drawn_ternary bs n e = record {
 }
 
 -- ---- signs
--- the product of two digits, as the code has it
-pub product_as_code :
-    (a b : Digit) (x y u v : ℤ) → u ≡ number a → x ≡ to_z w8 (of_z w8 u) → v ≡ number b → y ≡ to_z w8 (of_z w8 v)
-    → to_z w32 (of_z w32 (to_z w32 (of_z w32 x) *ℤ to_z w32 (of_z w32 y))) ≡ number a *ℤ number b
-product_as_code a b x y u v eu ex ev ey =
-    rw (ex ∙ ap (λ z. to_z w8 (of_z w8 z)) eu ∙ byte_number a, ey ∙ ap (λ z. to_z w8 (of_z w8 z)) ev ∙ byte_number b) (by a.code b.code)
-  where
-    by : (i j : ℕ) → to_z w32 (of_z w32 (to_z w32 (of_z w32 (signed i)) *ℤ to_z w32 (of_z w32 (signed j)))) ≡ signed i *ℤ signed j
-    by zero zero = refl
-    by zero (suc zero) = refl
-    by zero (suc (suc j)) = refl
-    by (suc zero) zero = refl
-    by (suc zero) (suc zero) = refl
-    by (suc zero) (suc (suc j)) = refl
-    by (suc (suc i)) zero = refl
-    by (suc (suc i)) (suc zero) = refl
-    by (suc (suc i)) (suc (suc j)) = refl
-
-pub product_small : (a b : Digit) → nat_abs (number a *ℤ number b) ≤ 1
-product_small a b = by a.code b.code
-  where
-    by : (i j : ℕ) → nat_abs (signed i *ℤ signed j) ≤ 1
-    by zero zero = omega arith
-    by zero (suc zero) = omega arith
-    by zero (suc (suc j)) = omega arith
-    by (suc zero) zero = omega arith
-    by (suc zero) (suc zero) = omega arith
-    by (suc zero) (suc (suc j)) = omega arith
-    by (suc (suc i)) zero = omega arith
-    by (suc (suc i)) (suc zero) = omega arith
-    by (suc (suc i)) (suc (suc j)) = omega arith
-
 pub sum_none : (f : ℕ → ℤ) → pos 0 ≡ sum integers 0 f
 unfolding sum_by
 sum_none f = refl

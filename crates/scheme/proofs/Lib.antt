@@ -16,3 +16,4 @@ mod Verdicts
 mod WordBytes
 mod WordPolynomials
 mod Working
+pub mod Numerals

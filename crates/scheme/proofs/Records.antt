@@ -3,7 +3,7 @@ use Rattle.std.proofs.Common.{◌≡◌, ℕ, ◌-◌, ◌%◌, ◌^◌, ◌<◌
 use borrow.Rule.Slice.PartMut.{post_of}
 use Rattle.std.specs.List.{range_with_len}
 use Rattle.std.proofs.lemmas.List.FromFn.{get_or-map-range_with_len, length-map-range_with_len}
-use Rattle.std.proofs.lemmas.List.{ext_get_or, get_or-take, get_or_push, length-map}
+use Rattle.std.proofs.lemmas.List.{ext_get_or, get_or-take, get_or_push}
 use Rattle.algebra.specs.Decided.{Tells}
 use Rattle.algebra.specs.Radix.{numeral, digits}
 use Rattle.algebra.specs.Ring.{Agree, integers}
@@ -17,7 +17,7 @@ use Rattle.algebra.proofs.Deciding.{told_as}
 use Rattle.algebra.proofs.Integers.{integer_laws}
 use Rattle.algebra.proofs.LastCoefficient.{write_last}
 use Rattle.algebra.proofs.Polynomials.{ternary_same}
-use Rattle.algebra.proofs.Radix.{numeral_same, length_digits}
+use Rattle.algebra.proofs.Radix.{numeral_same}
 use Rattle.arithmetic.specs.Digits.{digit, coefficients, number, sign}
 use Rattle.arithmetic.specs.Products.{integers_of}
 use Rattle.arithmetic.specs.declared.digit.Digit.{Digit}
@@ -29,6 +29,7 @@ use Rattle.scheme.specs.TernaryParts.{ternary_part, ternary_digits}
 use Rattle.scheme.specs.TernaryPolynomials.{ended_digits, ternary_polynomial, ternary_record, pair_of}
 use Rattle.scheme.specs.WordParts.{word_bytes, word_part, part_words}
 use Rattle.scheme.specs.WordPolynomials.{balanced, padded, balanced_polynomial, padded_polynomial, word_record}
+use Rattle.scheme.proofs.TernaryDigits.{length_ternary}
 
 -- ---- word parts
 -- the word part of words that are a polynomial modulo 2 ^ w
@@ -54,9 +55,6 @@ ternary_record_is ds u h =
     let m : k < n - 1 = omega arith in
     get_or-take (n - 1) ds k (digit 0) m ∙ sym (sign_number (get_or ds k (digit 0))) ∙ ap sign (h.at k (omega arith)) ∙ sym (get_or-map-range_with_len (λ j. sign (u j)) 0 (n - 1) k k (digit 0) m (omega arith))))
 
-length_ternary : (count : ℕ) (bytes : List ℕ) → length (ternary_digits count bytes) ≡ count
-length_ternary count bytes = length-map (digits 3 count (numeral 243 bytes)) digit ∙ length_digits 3 count (numeral 243 bytes)
-
 pub ended_ternary : (n : ℕ) (bytes : List ℕ) → Ternary n (ternary_polynomial n bytes)
 ended_ternary n bytes = record {
   digit = λ k h. number_small (get_or (ended_digits n bytes) k (digit 0));
@@ -71,9 +69,6 @@ module _ (bytes : List ℕ) (xs front : List Digit) (z : Digit) (some : 1 ≤ le
       let short : length (take (n - 1 - 0) xs) ≡ n - 1 = simp length-take (omega arith) in
       let front_is : front ≡ ternary_digits (n - 1) bytes = filled ∙ ap (λ k. ternary_digits k bytes) short in
       write_last xs front (n - 1) z (omega arith) (ap length front_is ∙ length_ternary (n - 1) bytes) ∙ ap (λ ds. ds ++ z ∷ []) front_is ∙ ap (λ d. ternary_digits (n - 1) bytes ++ d ∷ []) (same_digit z (digit 0) zero_code)
-
-  pub written_ternary : Ternary (length xs) (coefficients (set (front ++ post_of 0 (length xs - 1 - 0) xs) (length xs - 1) z))
-  written_ternary = subst (λ ds. Ternary (length xs) (coefficients ds)) (sym ended_written) (ended_ternary (length xs) bytes)
 
 -- ---- seal
 pub sealed_bytes : (n w : ℕ) (coins h key c out : List ℕ) (r m : List Digit) (entry : ℕ) → w ≤ 16 → length r ≡ n → length c ≡ n → entry ≡ n →

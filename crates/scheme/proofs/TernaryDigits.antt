@@ -1,76 +1,92 @@
 -- Steps of the loops that regroup digits five to a byte, and the laws of ternary parts.
-use Rattle.std.proofs.Common.{◌≡◌, ℕ, zero, suc, ◌+◌, ◌-◌, ◌*◌, ◌/◌, ◌%◌, ◌^◌, ◌<◌, ◌≤◌, true, false, ◌&&◌, leb, List, [], ◌∷◌, map, length, get_or, drop, set, sym, refl, ap, ◌∙◌, mod-eq_of_lt, arith}
-use native.Mathlib.Nat.{div-eq_of_lt, pow-le-pow_right, pow-succ', mod-mod, pow-zero}
-use Rattle.std.proofs.lemmas.List.{get_or-map, length-map, map-set, get_or_past, at_drop_more}
-use Rattle.std.proofs.lemmas.Nat.{mul-add-lt}
-use Rattle.std.proofs.lemmas.Bool.{leb-true, le-leb, lt-leb, and_parts}
+use Rattle.std.proofs.Common.{◌≡◌, ℕ, zero, suc, ◌+◌, ◌*◌, ◌/◌, ◌%◌, ◌^◌, ◌<◌, ◌≤◌, List, [], ◌∷◌, ◌++◌, map, length, get_or, take, set, sym, refl, ap, ◌∙◌, mod-eq_of_lt, subst, append_assoc, arith, length-take, length-append, length-set, min, ap₂}
+use native.Mathlib.Nat.{div-eq_of_lt, add-mul-mod_self_left, add-mul-div_left, zero-add, pow-le-pow_right, pow-zero, mul_comm}
+use Rattle.std.proofs.lemmas.List.{get_or-map, length-map, map-append, get_or_past, take_more, take_more_set, take_all, append-nil}
 use Rattle.algebra.specs.Radix.{numeral, digits, digit_at, Under}
-use Rattle.algebra.proofs.Radix.{Regroups, regroups_read, regroups_write, length_digits}
+use Rattle.algebra.proofs.Radix.{numeral_lt, length_digits}
 use Rattle.algebra.proofs.Regrouping.{written_in_order, read_in_order, read_alike, back, under_map, digits_under}
+use Rattle.scheme.proofs.Numerals.{numeral_append, numeral_push}
 use Rattle.arithmetic.specs.Digits.{digit}
 use Rattle.arithmetic.specs.declared.digit.Digit.{Digit}
 use Rattle.arithmetic.proofs.Digits.{digit_code}
-use Rattle.scheme.specs.TernaryParts.{codes, part_bytes, ternary_part, ternary_digits, HoldsDigits, TakesDigits, holds_digits}
+use Rattle.scheme.specs.TernaryParts.{codes, part_bytes, ternary_part, ternary_digits, HoldsDigits, TakesDigits}
 
 pub digits_codes : (ds : List Digit) → map digit (codes ds) ≡ ds
 digits_codes [] = refl
 digits_codes (d ∷ ds) = rw (digit_code d, digits_codes ds) refl
 
-pub weights : (k : ℕ) → k < 5 → 3 ^ k ≤ 81
-weights k h = pow-le-pow_right {n = 3} (omega arith) {i = k} {j = 4} (omega arith)
+-- ---- one byte of a part
+length_codes : (ds : List Digit) → length (codes ds) ≡ length ds
+length_codes ds = length-map ds (λ x. x.code)
 
--- ---- writing
-pub digit_read :
-    (byte p i at y : ℕ) (ds : List Digit) (out : List ℕ) (d : Digit) → y ≡ (get_or ds i d).code → byte < p → i < length ds
-    → Regroups 3 243 byte p i at (codes ds) out
-    → (byte + y * p < p * 3) × Regroups 3 243 (byte + y * p) (p * 3) (i + 1) at (codes ds) out
-digit_read byte p i at y ds out d e lt h inv =
-    let small : y < 3 = rw e (get_or ds i d).small in
-    let same : get_or (codes ds) i 0 % 3 ≡ y = ap (λ n. n % 3) (get_or-map (λ x. x.code) ds i d 0 h ∙ sym e) ∙ mod-eq_of_lt small in
-    let r = regroups_read 3 243 byte p i at (codes ds) out (rw length-map h) inv in
-    (omega (arith, mul-add-lt y p byte 3 small lt), rw same at r)
+byte_small : (ds : List Digit) → length ds ≤ 5 → numeral 3 (codes ds) < 243
+byte_small ds h =
+    let few : length (codes ds) ≤ 5 = rw length_codes h in
+    let top : 3 ^ length (codes ds) ≤ 3 ^ 5 = pow-le-pow_right {n = 3} (omega arith) few in
+    omega (arith, numeral_lt 3 (omega arith) (codes ds), top)
 
--- the fifth digit of a byte fills it
-pub byte_write :
-    (byte i at : ℕ) (xs out : List ℕ) → byte < 243 → at < length out → Regroups 3 243 byte 243 i at xs out
-    → Regroups 3 243 0 1 i (at + 1) xs (set out at byte)
-byte_write byte i at xs out lt h inv =
-    let r = regroups_write 3 243 byte 1 i at xs out (omega arith) h inv in
-    rw (mod-eq_of_lt lt, div-eq_of_lt lt) at r
+-- what digit i of a byte counts
+power : (i : ℕ) → i < 5 → get_or (1 ∷ 3 ∷ 9 ∷ 27 ∷ 81 ∷ []) i 0 ≡ 3 ^ i
+power zero h = refl
+power (suc zero) h = refl
+power (suc (suc zero)) h = refl
+power (suc (suc (suc zero))) h = refl
+power (suc (suc (suc (suc zero)))) h = refl
+power (suc (suc (suc (suc (suc i))))) h = absurd (omega arith)
 
--- ---- reading
-pub all_hold : (bs : List ℕ) → holds_digits bs ≡ true → (k : ℕ) → k < length bs → get_or bs k 0 ≤ 0xF2
-all_hold [] e k h = absurd (omega arith)
-all_hold (b ∷ bs) e zero h = leb-true b 0xF2 (and_parts (leb b 0xF2) (holds_digits bs) e).0
-all_hold (b ∷ bs) e (suc k) h = all_hold bs (and_parts (leb b 0xF2) (holds_digits bs) e).1 k (omega arith)
+-- one digit more in the byte, which holds five at most
+pub byte_more :
+    (five : List Digit) (i byte y : ℕ) (d : Digit) → length five ≤ 5 → i < length five → y ≡ (get_or five i d).code → byte ≡ numeral 3 (codes (take i five))
+    → (byte + y * get_or (1 ∷ 3 ∷ 9 ∷ 27 ∷ 81 ∷ []) i 0 < 256) × (byte + y * get_or (1 ∷ 3 ∷ 9 ∷ 27 ∷ 81 ∷ []) i 0 ≡ numeral 3 (codes (take (i + 1) five)))
+byte_more five i byte y d short h e inv =
+    let small : y < 3 = rw e (get_or five i d).small in
+    let front = take i five in
+    let long : length (codes front) ≡ i = length_codes front ∙ simp length-take (omega arith) in
+    let same : byte + y * get_or (1 ∷ 3 ∷ 9 ∷ 27 ∷ 81 ∷ []) i 0 ≡ numeral 3 (codes (take (i + 1) five)) =
+    rw (take_more five i d h, map-append, numeral_push 3 (codes front) (get_or five i d).code (get_or five i d).small, long, power i (omega arith), ← e, ← inv) (omega (arith, mul_comm y (3 ^ i))) in
+    (omega (arith, same, byte_small (take (i + 1) five) (simp length-take (omega arith))), same)
 
--- the test of a part, one byte on and at a byte that holds no digits
-pub test_more : (bs : List ℕ) (i x : ℕ) → i < length bs → x ≡ get_or bs i 0 → x ≤ 0xF2 → holds_digits (drop i bs) ≡ holds_digits (drop (i + 1) bs)
-test_more bs i x h e small = at_drop_more holds_digits bs i 0 h ∙ ap (λ t. t && holds_digits (drop (i + 1) bs)) (le-leb (get_or bs i 0) 0xF2 (omega arith))
+-- ---- a part, byte by byte
+first_byte : (n v rest : ℕ) → v < 243 → digits 243 (suc n) (v + 243 * rest) ≡ v ∷ digits 243 n rest
+unfolding digits
+first_byte n v rest lt =
+    let low : (v + 243 * rest) % 243 ≡ v = add-mul-mod_self_left v 243 rest ∙ mod-eq_of_lt lt in
+    let high : (v + 243 * rest) / 243 ≡ rest = add-mul-div_left v rest (omega arith) ∙ ap (λ m. m + rest) (div-eq_of_lt lt) ∙ zero-add rest in
+    rw (low, high) refl
 
-pub test_fails : (bs : List ℕ) (i x : ℕ) → i < length bs → x ≡ get_or bs i 0 → 0xF2 < x → holds_digits (drop i bs) ≡ false
-test_fails bs i x h e large = at_drop_more holds_digits bs i 0 h ∙ ap (λ t. t && holds_digits (drop (i + 1) bs)) (lt-leb (get_or bs i 0) 0xF2 (omega arith))
+-- a part begins with the byte of its first five digits, or of all where there are fewer
+five_first : (five more : List Digit) → length five ≡ min 5 (length (five ++ more)) → 0 < length (five ++ more) → ternary_part (five ++ more) ≡ numeral 3 (codes five) ∷ ternary_part more
+unfolding digits
+five_first five [] e h =
+    let v = numeral 3 (codes five) in
+    let long : length (five ++ []) ≡ length five = ap length (append-nil five) in
+    let one : part_bytes (length (five ++ [])) ≡ 1 = omega (arith, long, e, h) in
+    let all : numeral 3 (codes (five ++ [])) ≡ v + 243 * 0 = ap (λ ds. numeral 3 (codes ds)) (append-nil five) ∙ (omega arith) in
+    ap₂ (digits 243) one all ∙ first_byte 0 v 0 (byte_small five (omega (arith, e)))
+five_first five (m ∷ ms) e h =
+    let more = m ∷ ms in
+    let v = numeral 3 (codes five) in
+    let long : length (five ++ more) ≡ length five + length more = length-append five more in
+    let full : length five ≡ 5 = omega (arith, long, e) in
+    let next : part_bytes (length (five ++ more)) ≡ suc (part_bytes (length more)) = omega (arith, long, full) in
+    let all : numeral 3 (codes (five ++ more)) ≡ v + 243 * numeral 3 (codes more) =
+    ap (numeral 3) (map-append (λ d. d.code) five more) ∙ numeral_append 3 (codes five) (codes more) ∙ ap (λ k. v + 3 ^ k * numeral 3 (codes more)) (length_codes five ∙ full) in
+    ap₂ (digits 243) next all ∙ first_byte (part_bytes (length more)) v (numeral 3 (codes more)) (byte_small five (omega arith))
 
--- the next byte is read once no digit is left of the last
-pub byte_read :
-    (i at x : ℕ) (bs out : List ℕ) → x ≡ get_or bs at 0 → x ≤ 242 → at < length bs → Regroups 243 3 0 1 at i bs out
-    → Regroups 243 3 x 243 (at + 1) i bs out
-byte_read i at x bs out e small h inv =
-    let same : get_or bs at 0 % 243 ≡ x = ap (λ n. n % 243) (sym e) ∙ mod-eq_of_lt (omega arith) in
-    let r = rw same at (regroups_read 243 3 0 1 at i bs out h inv) in
-    let v : 0 + x * 1 ≡ x = omega arith in
-    rw v at r
+-- one byte more of a part, where i are written and `rest` is left of the digits
+pub part_more :
+    (rest five more : List Digit) (out whole : List ℕ) (i b : ℕ) → rest ≡ five ++ more → length five ≡ min 5 (length rest) → 0 < length rest → b ≡ numeral 3 (codes five)
+    → i + part_bytes (length rest) ≡ length out → take i out ++ ternary_part rest ≡ whole
+    → (i + 1 + part_bytes (length more) ≡ length (set out i b)) × (take (i + 1) (set out i b) ++ ternary_part more ≡ whole)
+part_more rest five more out whole i b e short h eb room inv =
+    let long : length rest ≡ length five + length more = ap length e ∙ length-append five more in
+    let next : ternary_part rest ≡ b ∷ ternary_part more = ap ternary_part e ∙ five_first five more (subst (λ ds. length five ≡ min 5 (length ds)) e short) (subst (λ ds. 0 < length ds) e h) ∙ ap (λ x. x ∷ ternary_part more) (sym eb) in
+    (rw length-set (omega (arith, long, short, h, room)), rw (take_more_set out i b (omega (arith, long, short, h, room)), append_assoc) (rw next at inv))
 
-pub digit_write :
-    (byte held i at : ℕ) (d : Digit) (bs : List ℕ) (out : List Digit) → d ≡ digit (byte % 3) → 0 < held → byte < 3 ^ held → i < length out
-    → Regroups 243 3 byte (3 ^ held) at i bs (codes out)
-    → (byte / 3 < 3 ^ (held - 1)) × Regroups 243 3 (byte / 3) (3 ^ (held - 1)) at (i + 1) bs (codes (set out i d))
-digit_write byte held i at d bs out e pos lt h inv =
-    let k : held ≡ suc (held - 1) = omega arith in
-    let p : 3 ^ held ≡ 3 * 3 ^ (held - 1) = ap (λ n. 3 ^ n) k ∙ pow-succ' 3 (held - 1) in
-    let r = regroups_write 243 3 byte (3 ^ (held - 1)) at i bs (codes out) (omega arith) (rw length-map h) (rw p at inv) in
-    let c : d.code ≡ byte % 3 = ap (λ x. x.code) e ∙ mod-mod byte 3 in
-    (omega arith, rw (map-set (λ x. x.code) out i d, c) r)
+pub part_done : (rest : List Digit) (out whole : List ℕ) (i : ℕ) → length rest ≡ 0 → i + part_bytes (length rest) ≡ length out → take i out ++ ternary_part rest ≡ whole → out ≡ whole
+unfolding digits
+part_done [] out whole i e room inv = rw (append-nil, take_all i out (omega arith)) at inv
+part_done (d ∷ ds) out whole i e room inv = absurd (omega arith)
 
 -- ---- laws
 codes_under : (ds : List Digit) → Under 3 (codes ds)
@@ -106,6 +122,9 @@ holds_each ds = record {
     order : (k : ℕ) → digit_at 3 5 (ternary_part ds) k ≡ digit_at 3 1 (codes ds) k
     order k = written_in_order 3 1 5 (omega arith) (omega arith) (omega arith) (part_bytes (length ds)) (codes ds) (room ds) k
 
+pub length_ternary : (n : ℕ) (bytes : List ℕ) → length (ternary_digits n bytes) ≡ n
+length_ternary n bytes = length-map (digits 3 n (numeral 243 bytes)) digit ∙ length_digits 3 n (numeral 243 bytes)
+
 pub takes_each : (n : ℕ) (bytes : List ℕ) → TakesDigits bytes (ternary_digits n bytes)
 takes_each n bytes = record {
   each = λ k h.
@@ -119,4 +138,4 @@ takes_each n bytes = record {
 }
   where
     long : length (ternary_digits n bytes) ≡ n
-    long = length-map (digits 3 n (numeral 243 bytes)) digit ∙ length_digits 3 n (numeral 243 bytes)
+    long = length_ternary n bytes

@@ -1,23 +1,12 @@
 -- What a call's answer says of its table: a call that is served passed every test.
-use Rattle.std.proofs.Common.{◌≡◌, ℕ, ◌-◌, ◌≤◌, Bool, true, false, not, ◌&&◌, eqb, List, [], ◌∷◌, length, Ok, sym, refl, subst, inl, inr, arith}
+use Rattle.std.proofs.Common.{◌≡◌, ℕ, ◌≤◌, true, false, not, eqb, List, [], ◌∷◌, sym, refl, subst, inl, inr, arith}
 use Rattle.std.proofs.lemmas.Bool.{eqb-true, not-false}
-use Rattle.arithmetic.specs.declared.digit.Digit.{Digit}
 use Rattle.scheme.specs.declared.refusal.Refusal.{Refusal}
-use Rattle.scheme.specs.declared.refusal.Refusal.TheVariants.{InputLength, OutputLength}
-use Rattle.scheme.specs.Draws.{draws}
-use Rattle.scheme.specs.Refusals.{Line, refuse, verdict, number_of, Holds, Smallest}
-
-pub passed : (e : Refusal) (b : Bool) (rest : List Line) → Ok tt ≡ verdict (refuse e b ∷ rest) → (b ≡ false) × (Ok tt ≡ verdict rest)
-passed e true rest p = absurd (let z : ◌≡◌ {A = ℕ} 0 1 = cc in omega arith)
-passed e false rest p = (refl, p)
+use Rattle.scheme.specs.Refusals.{Line, refuse, number_of, Holds, Smallest}
 
 -- a length that was tested
 pub same_length : (a b : ℕ) → not (eqb a b) ≡ false → a ≡ b
 same_length a b p = eqb-true a b (not-false (eqb a b) p)
-
-pub coins_fit : (n : ℕ) (coins : List ℕ) (first second : List Digit) → Ok tt ≡ verdict (draws n coins first second) → length coins ≡ n - 1
-coins_fit n coins first second p =
-    same_length (length coins) (n - 1) (passed InputLength (not (eqb (length coins) (n - 1))) (refuse OutputLength (not (eqb (length first) n && eqb (length second) n)) ∷ []) p).0
 
 -- ---- tables whose numbers ascend
 -- each number of a table is n or more

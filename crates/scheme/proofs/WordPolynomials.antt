@@ -2,7 +2,6 @@
 use Rattle.std.proofs.Common.{◌≡◌, ℕ, ◌+◌, ◌-◌, ◌^◌, ◌≤◌, List, [], ◌∷◌, ◌++◌, length, take, set, pos, neg_ℤ, sum, sym, ap, ◌∙◌, subst, arith, length-take}
 use borrow.Rule.Slice.PartMut.{post_of}
 use Rattle.std.proofs.lemmas.Nat.{pow_pos}
-use Rattle.std.proofs.lemmas.List.{get_or_push}
 use Rattle.algebra.specs.Polynomials.{Balanced}
 use Rattle.algebra.specs.Radix.{Under}
 use Rattle.algebra.proofs.Classes.{as_word_below}
@@ -27,9 +26,6 @@ module _ (w n : ℕ) (bytes : List ℕ) (some : 1 ≤ n) where
       let cs = part_words w (n - 1) bytes in
       let long : length cs + 1 ≡ n = omega (arith, length_words w (n - 1) bytes) in
       subst (λ m. Balanced (2 ^ w) m (integers_of (balanced w cs))) long (minus_sum_balances w cs)
-
-  pub padded_last : integers_of (padded (part_words w (n - 1) bytes)) (n - 1) ≡ pos 0
-  padded_last = ap pos (get_or_push (part_words w (n - 1) bytes) 0 0 (n - 1) (length_words w (n - 1) bytes))
 
 module _ (w n : ℕ) (bytes : List ℕ) (wide : 1 ≤ w) where
   pub balanced_small : Under (2 ^ w) (balanced w (part_words w n bytes))

@@ -1,5 +1,8 @@
 -- The parameter sets by their numbers, and the sizes of their records in bytes.
-use Rattle.std.specs.Prelude.{ℕ, zero, suc, ◌+◌, ◌-◌, ◌*◌, ◌/◌, Bool, ◌&&◌, nat_le}
+use Rattle.std.specs.Prelude.{◌≡◌, ℕ, zero, suc, ◌+◌, ◌-◌, ◌*◌, ◌/◌, Bool, true, false, ◌&&◌, nat_le, Result, MatchResult}
+use Rattle.scheme.specs.declared.refusal.Refusal.{Refusal}
+use Rattle.scheme.specs.declared.refusal.Refusal.TheVariants.{NoSuchSet}
+use Rattle.scheme.specs.declared.set.ParameterSet.{ParameterSet}
 
 -- there is a set of this number
 abbrev pub known : ℕ → Bool
@@ -20,6 +23,12 @@ width_of (suc zero) = 6
 width_of (suc (suc zero)) = 7
 width_of (suc (suc (suc zero))) = 13
 width_of (suc (suc (suc (suc k)))) = 0
+
+-- what a lookup by number gives: the set with the n and w of a known number, or that there is no such set
+abbrev pub SetOrRefusal : ℕ → Result ParameterSet Refusal → Type 0
+SetOrRefusal number r = MatchResult r
+    (λ s. (known number ≡ true) × (s.n ≡ length_of number) × (s.width ≡ width_of number))
+    (λ e. (known number ≡ false) × (e ≡ NoSuchSet))
 
 -- bytes of a ternary part of n - 1 digits
 abbrev pub ternary_bytes : ℕ → ℕ

@@ -1,5 +1,6 @@
 -- Ternary parts: five digits a byte in base 3, first digit lowest, -1 written 2.
-use Rattle.std.specs.Prelude.{◌≡◌, ℕ, ◌+◌, ◌/◌, ◌<◌, ◌≤◌, Bool, true, not, ◌&&◌, List, [], ◌∷◌, map, length, ◌==◌, nat_le, slice_index_or}
+use Rattle.std.specs.Prelude.{◌≡◌, ℕ, ◌+◌, ◌/◌, ◌<◌, ◌≤◌, Bool, not, List, [], ◌∷◌, map, length, ◌==◌, nat_le, slice_index_or}
+use Rattle.std.specs.List.{list_all}
 use Rattle.algebra.specs.Radix.{numeral, digits, digit_at, Under}
 use Rattle.arithmetic.specs.Digits.{digit}
 use Rattle.arithmetic.specs.declared.digit.Digit.{Digit}
@@ -36,8 +37,7 @@ pub record TakesDigits (bytes : List ℕ) (ds : List Digit) : Type 0 where
 
 -- each byte holds five digits: none is above F2
 abbrev pub holds_digits : List ℕ → Bool
-holds_digits [] = true
-holds_digits (b ∷ bs) = nat_le b 0xF2 && holds_digits bs
+holds_digits bs = list_all (λ b. nat_le b 0xF2) bs
 
 -- why so many digits are not written into a buffer
 abbrev pub writes : ℕ → List ℕ → List Line

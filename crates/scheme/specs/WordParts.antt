@@ -4,9 +4,13 @@ use Rattle.algebra.specs.Radix.{numeral, digits, digit_at, Under}
 use Rattle.scheme.specs.declared.refusal.Refusal.TheVariants.{InputLength, OutputLength}
 use Rattle.scheme.specs.Refusals.{Line, refuse}
 
+-- the widths that coefficients have: 1 to 16 bits
+abbrev pub width_fits : ℕ → Bool
+width_fits w = nat_le 1 w && nat_le w 16
+
 -- the shapes that word parts have: widths of 1 to 16 bits, and 1 to 1407 coefficients
 abbrev pub shaped : ℕ → ℕ → Bool
-shaped w count = (nat_le 1 w && nat_le w 16) && (nat_le 1 count && nat_le count 1407)
+shaped w count = width_fits w && (nat_le 1 count && nat_le count 1407)
 
 -- bytes of a word part of so many coefficients of w bits
 abbrev pub word_bytes : ℕ → ℕ → ℕ

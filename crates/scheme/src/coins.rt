@@ -4,14 +4,22 @@ ghost use Rattle.scheme.specs.Coins.{coin, ByTheRule, drawn};
 
 use arithmetic::Digit;
 
+const ZERO: Digit = Digit::ZERO;
+
+const ONE: Digit = Digit::ONE;
+
+const MINUS: Digit = Digit::MINUS_ONE;
+
 // What each of the sixteen possible halves of a byte gives, 0 to 15.
-const COINS: [i8; 16] = [0, 1, 1, -1, -1, 0, 0, 1, -1, 0, 0, 1, 1, -1, -1, 0];
+const COINS: [Digit; 16] = [
+    ZERO, ONE, ONE, MINUS, MINUS, ZERO, ZERO, ONE, MINUS, ZERO, ZERO, ONE, ONE, MINUS, MINUS, ZERO,
+];
 
 fn coin_digit(half: u8) -> Digit
     requires { half < 16 }
     ensures { result ≡ coin half }
 {
-    Digit::from_sign(COINS[half as usize])
+    COINS[half as usize]
 }
 
 // The two digits of a byte of coins: of its low half, and of its high half.

@@ -1,9 +1,10 @@
 // What is drawn from coins: the pair r, m of a seal, and f, g of a card.
-ghost use Rattle.std.specs.Prelude.{◌≡◌, ℕ, ◌-◌, ◌/◌, length, take, drop, Ok};
+ghost use Rattle.std.specs.Prelude.{◌≡◌, ◌≢◌, ◌-◌, ◌/◌, length, take, drop, Ok, MatchResult};
 ghost use Rattle.algebra.specs.Ternary.{Ternary, Ternary+};
 ghost use Rattle.arithmetic.specs.Digits.{coefficients};
+ghost use Rattle.scheme.specs.declared.refusal.Refusal.TheVariants.{InputLength};
 ghost use Rattle.scheme.specs.Coins.{drawn, first_half, second_half};
-ghost use Rattle.scheme.specs.Draws.{draws};
+ghost use Rattle.scheme.specs.Draws.{draws, room};
 ghost use Rattle.scheme.specs.Refusals.{left, verdict};
 ghost use Rattle.scheme.specs.Signs.{settled};
 
@@ -12,6 +13,27 @@ use crate::refusal::Refusal;
 use crate::set::ParameterSet;
 use crate::signs::settle_signs;
 use arithmetic::Digit;
+
+// The coins of two polynomials of a set.
+#[derive(Clone, Copy)]
+pub(crate) struct Coins<'a> {
+    pub(crate) set: ParameterSet,
+    pub(crate) bytes: &'a [u8],
+    ghost all: { length bytes.now ≡ set.coins },
+}
+
+impl<'a> Coins<'a> {
+    pub(crate) fn new(set: ParameterSet, bytes: &'a [u8]) -> Result<Coins<'a>, Refusal>
+        ensures { MatchResult result
+            (λ c. (length bytes.now ≡ set.coins) × (c.set ≡ set) × (c.bytes.now ≡ bytes.now))
+            (λ e. (length bytes.now ≢ set.coins) × (e ≡ InputLength)) }
+    {
+        if bytes.len() != set.coins {
+            return Err(Refusal::InputLength);
+        }
+        Ok(Coins { set, bytes })
+    }
+}
 
 // Draws r from the first half of the coins and m from the second.
 pub fn draw_pair(
@@ -25,15 +47,9 @@ pub fn draw_pair(
     ensures second { m.new ≡ left result (drawn (drop ((set.n - 1) / 2) coins.now)) m.old }
     ensures both_ternary { result ≡ Ok tt → Ternary set.n (coefficients r.new) × Ternary set.n (coefficients m.new) }
 {
-    if coins.len() != set.coins {
-        return Err(Refusal::InputLength);
-    }
-    if r.len() != set.n || m.len() != set.n {
-        return Err(Refusal::OutputLength);
-    }
-    let half = set.coins / 2;
-    draw(&coins[0..half], r);
-    draw(&coins[half..], m);
+    let coins = Coins::new(set, coins)?;
+    check_room(set, r, m)?;
+    draw_both(coins, r, m);
     Ok(())
 }
 
@@ -49,37 +65,39 @@ pub fn draw_key(
     ensures second { g.new ≡ left result (settled (drawn (drop ((set.n - 1) / 2) coins.now))) g.old }
     ensures both_correlate { result ≡ Ok tt → Ternary+ set.n (coefficients f.new) × Ternary+ set.n (coefficients g.new) }
 {
-    draw_pair(set, coins, f, g)?;
-    settle_signs(f);
-    settle_signs(g);
+    let coins = Coins::new(set, coins)?;
+    check_room(set, f, g)?;
+    draw_settled(coins, f, g);
+    Ok(())
+}
+
+fn check_room(set: ParameterSet, first: &[Digit], second: &[Digit]) -> Result<(), Refusal>
+    ensures { result ≡ verdict (room set.n first.now second.now) }
+{
+    if first.len() != set.n || second.len() != set.n {
+        return Err(Refusal::OutputLength);
+    }
     Ok(())
 }
 
 // Draws one polynomial from the first half of the coins and one from the second.
-pub(crate) fn draw_both(set: ParameterSet, coins: &[u8], first: &mut [Digit], second: &mut [Digit])
-    requires coins { length coins.now ≡ set.coins }
-    requires room { (length first.old ≡ set.n) × (length second.old ≡ set.n) }
-    ensures first { first.new ≡ drawn (first_half set.n coins.now) }
-    ensures second { second.new ≡ drawn (second_half set.n coins.now) }
+pub(crate) fn draw_both(coins: Coins<'_>, first: &mut [Digit], second: &mut [Digit])
+    requires room { (length first.old ≡ coins.set.n) × (length second.old ≡ coins.set.n) }
+    ensures first { first.new ≡ drawn (first_half coins.entry.set.n coins.entry.bytes.now) }
+    ensures second { second.new ≡ drawn (second_half coins.entry.set.n coins.entry.bytes.now) }
 {
-    let half = set.coins / 2;
-    draw(&coins[0..half], first);
-    draw(&coins[half..], second);
+    let (first_coins, second_coins) = coins.bytes.split_at(coins.set.coins / 2);
+    draw(first_coins, first);
+    draw(second_coins, second);
 }
 
 // Draws likewise, and flips the even-numbered signs of each whose correlation is negative.
-pub(crate) fn draw_settled(
-    set: ParameterSet,
-    coins: &[u8],
-    first: &mut [Digit],
-    second: &mut [Digit],
-)
-    requires coins { length coins.now ≡ set.coins }
-    requires room { (length first.old ≡ set.n) × (length second.old ≡ set.n) }
-    ensures first { first.new ≡ settled (drawn (first_half set.n coins.now)) }
-    ensures second { second.new ≡ settled (drawn (second_half set.n coins.now)) }
+pub(crate) fn draw_settled(coins: Coins<'_>, first: &mut [Digit], second: &mut [Digit])
+    requires room { (length first.old ≡ coins.set.n) × (length second.old ≡ coins.set.n) }
+    ensures first { first.new ≡ settled (drawn (first_half coins.entry.set.n coins.entry.bytes.now)) }
+    ensures second { second.new ≡ settled (drawn (second_half coins.entry.set.n coins.entry.bytes.now)) }
 {
-    draw_both(set, coins, first, second);
+    draw_both(coins, first, second);
     settle_signs(first);
     settle_signs(second);
 }

@@ -31,6 +31,7 @@ impl Drop for Job<'_> {
     }
 }
 
+// A call takes its job apart and makes it anew, since the check knows of a job that it made what its drop left, and of `self` not.
 impl<'a> Job<'a> {
     // Begins a job over a coin buffer of any length.
     pub fn begin(coins: &'a mut [u8]) -> Job<'a>
@@ -59,6 +60,7 @@ impl<'a> Job<'a> {
         let job = Job { coins };
         write_drawn_pair(set, job.coins, out)
     }
+
     // Seals the pair of the coins to the public key of a card.
     pub fn seal<U: RowUnit>(
         self,

@@ -136,11 +136,11 @@ fn test_over<U: RowUnit>(
     if !is_inverse_modulo_3(unit, k, l, d, x, y, z, doubled) {
         return Err(Refusal::FpNotInverse);
     }
-    read_balanced(set.width, h, c);
+    read_balanced(set.bits(), h, c);
     if !has_key_equation(unit, set.width, c, k, d, x, y, doubled) {
         return Err(Refusal::NoKeyEquation);
     }
-    read_padded(set.width, hq, z);
+    read_padded(set.bits(), hq, z);
     if !is_inverse_modulo_q(unit, set.width, c, z, d, x, doubled) {
         return Err(Refusal::HqNotInverse);
     }
@@ -193,7 +193,7 @@ fn test_card<U: RowUnit>(set: u8, card: &[u8], unit: &mut U) -> Result<(), Refus
     ensures answer { result ≡ outcome (tests set card.now) }
     ensures count { U.rows unit.new ≡ raised (cost (tests set card.now)) (U.rows unit.old) }
 {
-    let set = ParameterSet::from_number(set)?;
+    let set = ParameterSet::try_from(set)?;
     if card.len() != set.card {
         return Err(Refusal::InputLength);
     }

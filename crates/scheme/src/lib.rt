@@ -23,6 +23,7 @@ mod signs;
 mod sums;
 mod ternary;
 mod ternary_polynomial;
+mod width;
 mod words;
 
 pub use card::{CardReader, Part, Parts, split_card};

@@ -10,7 +10,7 @@ ghost use Rattle.scheme.specs.Making.{CardOf, MakeAnswer, MakeOutput, NoCard, Pu
 ghost use Rattle.scheme.specs.WordPolynomials.{word_record};
 
 use crate::coefficients::signed_words;
-use crate::draws::draw_settled;
+use crate::draws::{Coins, draw_settled};
 use crate::polynomial::{LONGEST, write_all_but_last};
 use crate::refusal::Refusal;
 use crate::set::ParameterSet;
@@ -118,8 +118,8 @@ fn write_words(set: ParameterSet, h: &[u16], hq: &[u16], out: &mut [u8])
     ensures { out.new ≡ word_record set.n set.width (integers_of h.now) ++ word_record set.n set.width (integers_of hq.now) }
 {
     let word = set.word;
-    write_all_but_last(set.width, h, &mut out[0..word]);
-    write_all_but_last(set.width, hq, &mut out[word..]);
+    write_all_but_last(set.bits(), h, &mut out[0..word]);
+    write_all_but_last(set.bits(), hq, &mut out[word..]);
 }
 
 // Writes a card.
@@ -162,7 +162,7 @@ fn make_card_over<U: RowUnit>(
     ensures none { result ≡ false → NoCard set.n set.width coins.now × (out.new ≡ out.old) }
     ensures count { U.rows unit.old ≤ U.rows unit.new }
 {
-    draw_settled(set, coins, f, g);
+    draw_settled(Coins { set, bytes: coins }, f, g);
     if !make_over(unit, set.width, f, g, fp, h, hq, r, s, t, v, x, y, doubled) {
         return false;
     }
@@ -222,7 +222,7 @@ pub(crate) fn make_drawn<U: RowUnit>(
     ensures output { MakeOutput set coins.now result out.old out.new }
     ensures count { U.rows unit.old ≤ U.rows unit.new }
 {
-    let set = ParameterSet::from_number(set)?;
+    let set = ParameterSet::try_from(set)?;
     if coins.len() != set.coins {
         return Err(Refusal::InputLength);
     }

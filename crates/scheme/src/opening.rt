@@ -117,9 +117,9 @@ fn open_over<U: RowUnit>(
 {
     read_ternary(f, k);
     read_ternary(fp, l);
-    read_balanced(set.width, sealed, c);
+    read_balanced(set.bits(), sealed, c);
     find_m(unit, set.width, c, k, l, m, x, y, z, doubled);
-    read_padded(set.width, hq, z);
+    read_padded(set.bits(), hq, z);
     // The lists of f and fp are free again.
     if !find_r(unit, set.width, c, m, z, k, l, x, y, doubled) {
         return false;
@@ -184,7 +184,7 @@ fn open_card<U: RowUnit>(
     ensures output { pair.new ≡ left result (opened_record (length_of set) (width_of set) card.now sealed.now) pair.old }
     ensures count { U.rows unit.new ≡ raised (cost (opens set card.now sealed.now pair.old)) (U.rows unit.old) }
 {
-    let set = ParameterSet::from_number(set)?;
+    let set = ParameterSet::try_from(set)?;
     if card.len() != set.card || sealed.len() != set.word {
         return Err(Refusal::InputLength);
     }

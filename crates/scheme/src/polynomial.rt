@@ -6,6 +6,7 @@ ghost use Rattle.arithmetic.specs.Products.{integers_of};
 ghost use Rattle.scheme.specs.WordParts.{word_bytes, word_part, part_words};
 ghost use Rattle.scheme.specs.WordPolynomials.{ReadsBack, balanced, padded};
 
+use crate::width::Width;
 use crate::words::{pack_words, unpack_words};
 
 // The greatest number of coefficients of a polynomial.
@@ -15,38 +16,33 @@ pub(crate) const LONGEST: usize = 1408;
 fn sum_words(words: &[u16]) -> u16
     ensures { result ≡ sum words.now % 65536 }
 {
-    let mut total: u16 = 0;
-    for word in words {
-        total = total.wrapping_add(*word);
-    }
-    total
+    words
+        .iter()
+        .fold(0u16, |total, word| total.wrapping_add(*word))
 }
 
 // A polynomial whose coefficients have the sum 0 modulo 2^width, as h and a sealed one: the sum gives the last.
-pub(crate) fn read_balanced(width: u32, bytes: &[u8], out: &mut [u16])
-    requires width { (1 ≤ width) × (width ≤ 16) }
+pub(crate) fn read_balanced(width: Width, bytes: &[u8], out: &mut [u16])
     requires some { 1 ≤ length out.old }
-    requires enough { width * (length out.old - 1) ≤ 8 * length bytes.now }
-    ensures words { out.new ≡ balanced width (part_words width (length out.old - 1) bytes.now) }
-    ensures sum_zero { Balanced (2 ^ width) (length out.old) (integers_of out.new) }
-    ensures small { Under (2 ^ width) out.new }
+    requires enough { width.bits * (length out.old - 1) ≤ 8 * length bytes.now }
+    ensures words { out.new ≡ balanced width.bits (part_words width.bits (length out.old - 1) bytes.now) }
+    ensures sum_zero { Balanced (2 ^ width.bits) (length out.old) (integers_of out.new) }
+    ensures small { Under (2 ^ width.bits) out.new }
 {
     let last = out.len() - 1;
     let others = &mut out[0..last];
     unpack_words(width, bytes, others);
     let total = sum_words(others);
-    let mask = (1u32 << width) - 1;
-    out[last] = (u32::from(total.wrapping_neg()) & mask) as u16;
+    out[last] = width.low(total.wrapping_neg());
 }
 
 // A polynomial whose last coefficient is 0, as hq.
-pub(crate) fn read_padded(width: u32, bytes: &[u8], out: &mut [u16])
-    requires width { (1 ≤ width) × (width ≤ 16) }
+pub(crate) fn read_padded(width: Width, bytes: &[u8], out: &mut [u16])
     requires some { 1 ≤ length out.old }
-    requires enough { width * (length out.old - 1) ≤ 8 * length bytes.now }
-    ensures words { out.new ≡ padded (part_words width (length out.old - 1) bytes.now) }
+    requires enough { width.bits * (length out.old - 1) ≤ 8 * length bytes.now }
+    ensures words { out.new ≡ padded (part_words width.bits (length out.old - 1) bytes.now) }
     ensures last_zero { integers_of out.new (length out.old - 1) ≡ pos 0 }
-    ensures small { Under (2 ^ width) out.new }
+    ensures small { Under (2 ^ width.bits) out.new }
 {
     let last = out.len() - 1;
     unpack_words(width, bytes, &mut out[0..last]);
@@ -54,12 +50,11 @@ pub(crate) fn read_padded(width: u32, bytes: &[u8], out: &mut [u16])
 }
 
 // Writes all coefficients but the last.
-pub(crate) fn write_all_but_last(width: u32, polynomial: &[u16], out: &mut [u8])
-    requires width { (1 ≤ width) × (width ≤ 16) }
+pub(crate) fn write_all_but_last(width: Width, polynomial: &[u16], out: &mut [u8])
     requires some { 1 ≤ length polynomial.now }
-    requires room { length out.old ≡ word_bytes width (length polynomial.now - 1) }
-    ensures output { out.new ≡ word_part width (take (length polynomial.now - 1) polynomial.now) }
-    ensures reads_back { Under (2 ^ width) polynomial.now → ReadsBack width polynomial.now out.new }
+    requires room { length out.old ≡ word_bytes width.bits (length polynomial.now - 1) }
+    ensures output { out.new ≡ word_part width.bits (take (length polynomial.now - 1) polynomial.now) }
+    ensures reads_back { Under (2 ^ width.bits) polynomial.now → ReadsBack width.bits polynomial.now out.new }
 {
     let last = polynomial.len() - 1;
     pack_words(width, &polynomial[0..last], out);

@@ -1,47 +1,36 @@
-// Why a call says no.
+// Why a call says no, and the number by which a fitter knows it.
 ghost use Rattle.std.specs.Prelude.{◌≡◌, ℕ};
 ghost use Rattle.scheme.specs.Refusals.{number_of};
 
 #[derive(Clone, Copy, PartialEq, Eq, Debug)]
 pub enum Refusal {
     // There is no parameter set of that number.
-    NoSuchSet,
+    NoSuchSet = 3,
     // Coins, a card, a sealed record or a part have the wrong length, or there is no word part of that width or number of coefficients.
-    InputLength,
+    InputLength = 6,
     // The output has the wrong length.
-    OutputLength,
+    OutputLength = 7,
     // A byte of a ternary part is above F2 and holds no five digits.
-    TernaryByte,
+    TernaryByte = 8,
     // f of a card correlates negatively.
-    NegativeCorrelation,
+    NegativeCorrelation = 9,
     // fp of a card is no inverse of f modulo 3.
-    FpNotInverse,
+    FpNotInverse = 10,
     // No g solves the key equation.
-    NoKeyEquation,
+    NoKeyEquation = 11,
     // hq of a card is no inverse of h modulo q.
-    HqNotInverse,
+    HqNotInverse = 12,
     // f, modulo 2 or modulo 3, or h has no inverse, so that no card comes of the coins.
-    NotInvertible,
+    NotInvertible = 13,
     // No pair encrypts to a sealed record.
-    NoPair,
+    NoPair = 14,
 }
 
 impl Refusal {
-    // The number by which a fitter knows the refusal.
+    // The number of the refusal.
     pub fn number(self) -> u8
         ensures number_of_the_refusal { result ≡ number_of self }
     {
-        match self {
-            Refusal::NoSuchSet => 3,
-            Refusal::InputLength => 6,
-            Refusal::OutputLength => 7,
-            Refusal::TernaryByte => 8,
-            Refusal::NegativeCorrelation => 9,
-            Refusal::FpNotInverse => 10,
-            Refusal::NoKeyEquation => 11,
-            Refusal::HqNotInverse => 12,
-            Refusal::NotInvertible => 13,
-            Refusal::NoPair => 14,
-        }
+        self as u8
     }
 }

@@ -13,7 +13,7 @@ ghost use Rattle.scheme.specs.WordPolynomials.{balanced_polynomial};
 
 use crate::card::split_card;
 use crate::coefficients::signed_words;
-use crate::draws::draw_both;
+use crate::draws::{Coins, draw_both};
 use crate::lifting::{lift, times_phi1_words};
 use crate::polynomial::{LONGEST, read_balanced, write_all_but_last};
 use crate::refusal::Refusal;
@@ -69,10 +69,10 @@ fn seal_over<U: RowUnit>(
     ensures output { out.new ≡ sealed_record set.n set.width (balanced_polynomial set.n set.width h.now) coins.now }
     ensures count { U.rows unit.new ≡ raised set.n (U.rows unit.old) }
 {
-    draw_both(set, coins, r, m);
-    read_balanced(set.width, h, key);
+    draw_both(Coins { set, bytes: coins }, r, m);
+    read_balanced(set.bits(), h, key);
     encrypt(unit, r, m, key, c, s, x, y, doubled);
-    write_all_but_last(set.width, c, out);
+    write_all_but_last(set.bits(), c, out);
 }
 
 // The same with lists of its own.
@@ -119,7 +119,7 @@ pub(crate) fn seal_drawn<U: RowUnit>(
     ensures output { out.new ≡ left result (sealed_record (length_of set) (width_of set) (polynomials (length_of set) (width_of set) card.now).h coins.now) out.old }
     ensures count { U.rows unit.new ≡ raised (cost (seals set card.now coins.now out.old)) (U.rows unit.old) }
 {
-    let set = ParameterSet::from_number(set)?;
+    let set = ParameterSet::try_from(set)?;
     if card.len() != set.card || coins.len() != set.coins {
         return Err(Refusal::InputLength);
     }

@@ -1,6 +1,8 @@
 // Parameter sets.
 ghost use Rattle.std.specs.Prelude.{◌≡◌, ℕ, ◌+◌, ◌-◌, ◌*◌, ◌/◌, ◌%◌, ◌^◌, ◌<◌, ◌≤◌};
 
+use crate::width::Width;
+
 mod lookup;
 
 // A parameter set: how long its polynomials are, how many bits a coefficient modulo q = 2^width has, and the sizes
@@ -27,4 +29,13 @@ pub struct ParameterSet {
     ghost wide: { 128 * ((n - 1) * (n - 1)) < 2 ^ width * 2 ^ width },
     ghost parts: { (ternary ≡ (n - 1 + 4) / 5) × (word ≡ (width * (n - 1) + 7) / 8) },
     ghost records: { (card ≡ 2 * ternary + 2 * word) × (pair ≡ 2 * ternary) × (coins ≡ n - 1) },
+}
+
+impl ParameterSet {
+    // How many bits a coefficient has.
+    pub(crate) fn bits(self) -> Width
+        ensures { result.bits ≡ self.width }
+    {
+        Width { bits: self.width }
+    }
 }

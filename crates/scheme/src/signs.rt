@@ -19,8 +19,8 @@ fn correlate(v: &[Digit]) -> i32
     ensures { result ≡ correlation (length v.now) (coefficients v.now) }
 {
     let mut total: i32 = 0;
-    for i in 0..v.len().saturating_sub(2) {
-        total += neighbours(v[i], v[i + 1]);
+    for pair in v[0..v.len().saturating_sub(1)].windows(2) {
+        total += neighbours(pair[0], pair[1]);
     }
     total
 }
@@ -36,9 +36,9 @@ pub(crate) fn correlates(v: &[Digit]) -> bool
 fn flip_signs(v: &mut [Digit])
     ensures { v.new ≡ flipped v.old }
 {
-    for i in 0..v.len() {
+    for (i, d) in v.iter_mut().enumerate() {
         if i % 2 == 0 {
-            v[i] = v[i].negation();
+            *d = d.negation();
         }
     }
 }

@@ -1,13 +1,17 @@
 // Ternary parts: five digits a byte, first digit lowest.
 ghost use Rattle.std.specs.Prelude.{◌≡◌, ℕ, ◌+◌, ◌*◌, ◌/◌, ◌<◌, ◌≤◌, true, length, Ok};
 ghost use Rattle.scheme.specs.Refusals.{left, verdict};
-ghost use Rattle.scheme.specs.TernaryParts.{HoldsDigits, TakesDigits, holds_digits, reads, ternary_digits, ternary_part, writes};
+ghost use Rattle.algebra.specs.Radix.{numeral};
+ghost use Rattle.scheme.specs.TernaryParts.{codes, HoldsDigits, TakesDigits, holds_digits, reads, ternary_digits, ternary_part, writes};
 
 use crate::refusal::Refusal;
 use arithmetic::Digit;
 
 // The greatest byte that holds five digits: 2 + 2 * 3 + 2 * 9 + 2 * 27 + 2 * 81.
 const GREATEST: u8 = 0xF2;
+
+// What the digits of a byte count.
+const POWERS: [u8; 5] = [1, 3, 9, 27, 81];
 
 // Writes the digits, as many bytes as they need. Spare digits of the last byte are zero.
 pub fn write_ternary_part(digits: &[Digit], out: &mut [u8]) -> Result<(), Refusal>
@@ -43,55 +47,35 @@ pub(crate) fn pack(digits: &[Digit], out: &mut [u8])
     requires { length out.old ≡ (length digits.now + 4) / 5 }
     ensures { out.new ≡ ternary_part digits.now }
 {
+    for (i, five) in digits.chunks(5).enumerate() {
+        out[i] = packed(five);
+    }
+}
+
+// The byte that holds five digits, or the fewer that a part ends with.
+fn packed(five: &[Digit]) -> u8
+    requires { length five.now ≤ 5 }
+    ensures { result ≡ numeral 3 (codes five.now) }
+{
     let mut byte: u8 = 0;
-    let mut weight: u8 = 1;
-    let mut filled: u8 = 0;
-    let mut at: usize = 0;
-    for d in digits {
-        byte += d.code() * weight;
-        weight *= 3;
-        filled += 1;
-        if filled == 5 {
-            out[at] = byte;
-            at += 1;
-            byte = 0;
-            weight = 1;
-            filled = 0;
-        }
+    for (i, d) in five.iter().enumerate() {
+        byte += d.code() * POWERS[i];
     }
-    if filled > 0 {
-        out[at] = byte;
-    }
+    byte
 }
 
 // Whether each byte holds five digits.
 pub(crate) fn all_hold_digits(bytes: &[u8]) -> bool
     ensures { result ≡ holds_digits bytes.now }
 {
-    for b in bytes {
-        if *b > GREATEST {
-            return false;
-        }
-    }
-    true
+    bytes.iter().all(|b| *b <= GREATEST)
 }
 
 pub(crate) fn unpack(bytes: &[u8], out: &mut [Digit])
-    requires enough { length out.old ≤ 5 * length bytes.now }
-    requires digits { holds_digits bytes.now ≡ true }
+    requires { length out.old ≤ 5 * length bytes.now }
     ensures { out.new ≡ ternary_digits (length out.old) bytes.now }
 {
-    let mut byte: u8 = 0;
-    let mut held: u8 = 0;
-    let mut at: usize = 0;
-    for i in 0..out.len() {
-        if held == 0 {
-            byte = bytes[at];
-            at += 1;
-            held = 5;
-        }
-        out[i] = Digit::from_number(u16::from(byte % 3));
-        byte /= 3;
-        held -= 1;
+    for (i, d) in out.iter_mut().enumerate() {
+        *d = Digit::from_number(u16::from(bytes[i / 5] / POWERS[i % 5]));
     }
 }

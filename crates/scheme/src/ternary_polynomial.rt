@@ -14,7 +14,6 @@ use arithmetic::Digit;
 pub(crate) fn read_ternary(bytes: &[u8], out: &mut [Digit])
     requires some { 1 ≤ length out.old }
     requires enough { length out.old - 1 ≤ 5 * length bytes.now }
-    requires digits { holds_digits bytes.now ≡ true }
     ensures digits { out.new ≡ ended_digits (length out.old) bytes.now }
     ensures ternary { Ternary (length out.old) (coefficients out.new) }
 {

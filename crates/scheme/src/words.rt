@@ -1,13 +1,12 @@
 // Word parts: `width` bits a coefficient, lowest bit first.
-ghost use Rattle.std.specs.Prelude.{◌≡◌, ℕ, ◌*◌, ◌^◌, ◌≤◌, length, Ok};
-ghost use Rattle.algebra.specs.Radix.{Under};
+ghost use Rattle.std.specs.Prelude.{◌≡◌, ℕ, ◌*◌, ◌^◌, ◌≤◌, true, false, length, Ok, MatchResult};
+ghost use Rattle.algebra.specs.Radix.{numeral, Under};
+ghost use Rattle.scheme.specs.declared.refusal.Refusal.TheVariants.{InputLength};
 ghost use Rattle.scheme.specs.Refusals.{left, verdict};
 ghost use Rattle.scheme.specs.WordParts.{HoldsBits, TakesBits, shaped, word_bytes, word_part, word_reads, word_writes, part_words};
 
 use crate::refusal::Refusal;
-
-// The greatest number of bits of a coefficient.
-const WIDEST: u32 = 16;
+use crate::width::Width;
 
 // The greatest number of coefficients of a part.
 const MOST: usize = 1407;
@@ -19,10 +18,8 @@ pub fn write_word_part(width: u32, coefficients: &[u16], out: &mut [u8]) -> Resu
     ensures bit_by_bit { result ≡ Ok tt → HoldsBits width coefficients.now out.new }
     ensures reads_back { result ≡ Ok tt → Under (2 ^ width) coefficients.now → part_words width (length coefficients.now) out.new ≡ coefficients.now }
 {
-    if !has_shape(width, coefficients.len()) {
-        return Err(Refusal::InputLength);
-    }
-    if out.len() != part_bytes(width, coefficients.len()) {
+    let width = part_width(width, coefficients.len())?;
+    if out.len() != width.part_bytes(coefficients.len()) {
         return Err(Refusal::OutputLength);
     }
     pack_words(width, coefficients, out);
@@ -35,39 +32,36 @@ pub fn read_word_part(width: u32, bytes: &[u8], out: &mut [u16]) -> Result<(), R
     ensures output { out.new ≡ left result (part_words width (length out.old) bytes.now) out.old }
     ensures bit_by_bit { result ≡ Ok tt → TakesBits width bytes.now out.new }
 {
-    if !has_shape(width, out.len()) || bytes.len() != part_bytes(width, out.len()) {
+    let width = part_width(width, out.len())?;
+    if bytes.len() != width.part_bytes(out.len()) {
         return Err(Refusal::InputLength);
     }
     unpack_words(width, bytes, out);
     Ok(())
 }
 
-// Whether word parts are had of this width and number of coefficients.
-fn has_shape(width: u32, count: usize) -> bool
-    ensures { result ≡ shaped width count }
+// The width of word parts of so many bits and coefficients, where there are such.
+fn part_width(bits: u32, count: usize) -> Result<Width, Refusal>
+    ensures { MatchResult result (λ w. (shaped bits count ≡ true) × (w.bits ≡ bits)) (λ e. (shaped bits count ≡ false) × (e ≡ InputLength)) }
 {
-    1 <= width && width <= WIDEST && 1 <= count && count <= MOST
+    if !(1..=MOST).contains(&count) {
+        return Err(Refusal::InputLength);
+    }
+    Width::new(bits).ok_or(Refusal::InputLength)
 }
 
-fn part_bytes(width: u32, count: usize) -> usize
-    requires { (width ≤ 16) × (count ≤ 1407) }
-    ensures { result ≡ word_bytes width count }
+pub(crate) fn pack_words(width: Width, coefficients: &[u16], out: &mut [u8])
+    requires { length out.old ≡ word_bytes width.bits (length coefficients.now) }
+    ensures { out.new ≡ word_part width.bits coefficients.now }
 {
-    (width as usize * count).div_ceil(8)
-}
-
-pub(crate) fn pack_words(width: u32, coefficients: &[u16], out: &mut [u8])
-    requires width { (1 ≤ width) × (width ≤ 16) }
-    requires room { length out.old ≡ word_bytes width (length coefficients.now) }
-    ensures { out.new ≡ word_part width coefficients.now }
-{
-    let mask = (1u32 << width) - 1;
+    // Bytes are counted by hand: one takes bits of up to eight coefficients, so that neither list can lead the other in step,
+    // and of bytes that `out.iter_mut()` gave a proof knows nothing later.
     let mut bits: u32 = 0;
     let mut held: u32 = 0;
     let mut at: usize = 0;
     for c in coefficients {
-        bits |= (u32::from(*c) & mask) << held;
-        held += width;
+        bits |= u32::from(width.low(*c)) << held;
+        held += width.bits;
         while held >= 8 {
             out[at] = (bits & 0xff) as u8;
             bits >>= 8;
@@ -80,23 +74,28 @@ pub(crate) fn pack_words(width: u32, coefficients: &[u16], out: &mut [u8])
     }
 }
 
-pub(crate) fn unpack_words(width: u32, bytes: &[u8], out: &mut [u16])
-    requires width { (1 ≤ width) × (width ≤ 16) }
-    requires enough { width * length out.old ≤ 8 * length bytes.now }
-    ensures { out.new ≡ part_words width (length out.old) bytes.now }
+pub(crate) fn unpack_words(width: Width, bytes: &[u8], out: &mut [u16])
+    requires { width.bits * length out.old ≤ 8 * length bytes.now }
+    ensures { out.new ≡ part_words width.bits (length out.old) bytes.now }
 {
-    let mask = (1u32 << width) - 1;
-    let mut bits: u32 = 0;
-    let mut held: u32 = 0;
-    let mut at: usize = 0;
-    for i in 0..out.len() {
-        while held < width {
-            bits |= u32::from(bytes[at]) << held;
-            held += 8;
-            at += 1;
-        }
-        out[i] = (bits & mask) as u16;
-        bits >>= width;
-        held -= width;
+    let bits = width.bits as usize;
+    for (i, word) in out.iter_mut().enumerate() {
+        // Eight words take as many bytes as one has bits.
+        let bit = i % 8 * bits;
+        let at = i / 8 * bits + bit / 8;
+        let window = number(&bytes[at..bytes.len().min(at + 3)]);
+        *word = width.low(((window >> (bit % 8)) & 0xffff) as u16);
     }
+}
+
+// The number that up to three bytes write, lowest first.
+fn number(bytes: &[u8]) -> u32
+    requires { length bytes.now ≤ 3 }
+    ensures { result ≡ numeral 256 bytes.now }
+{
+    let mut number: u32 = 0;
+    for (i, byte) in bytes.iter().enumerate() {
+        number += u32::from(*byte) << (8 * i);
+    }
+    number
 }

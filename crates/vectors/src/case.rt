@@ -49,7 +49,7 @@ impl Call {
 
     // The length of the output that the set asks for; 0 where there is no such set.
     fn length(self, set: u8) -> usize {
-        let Ok(set) = ParameterSet::from_number(set) else {
+        let Ok(set) = ParameterSet::try_from(set) else {
             return 0;
         };
         match self {

@@ -1,7 +1,5 @@
 // The parameter set of a number.
-ghost use Rattle.std.specs.Prelude.{◌≡◌, ℕ, true, false, MatchResult};
-ghost use Rattle.scheme.specs.declared.refusal.Refusal.TheVariants.{NoSuchSet};
-ghost use Rattle.scheme.specs.Sets.{known, length_of, width_of};
+ghost use Rattle.scheme.specs.Sets.{SetOrRefusal};
 
 use crate::refusal::Refusal;
 use crate::set::ParameterSet;
@@ -36,13 +34,13 @@ const SET_3: ParameterSet = ParameterSet {
     coins: 700,
 };
 
-impl ParameterSet {
-    // The set of a number: 1, 2 or 3.
-    pub fn from_number(number: u8) -> Result<ParameterSet, Refusal>
-        ensures set_or_refusal { MatchResult result
-            (λ s. (known number ≡ true) × (s.n ≡ length_of number) × (s.width ≡ width_of number))
-            (λ e. (known number ≡ false) × (e ≡ NoSuchSet)) }
-    {
+// The set of a number: 1, 2 or 3.
+impl TryFrom<u8> for ParameterSet {
+    type Error = Refusal;
+
+    ghost try_from_gives = { SetOrRefusal };
+
+    fn try_from(number: u8) -> Result<Self, Refusal> {
         match number {
             1 => Ok(SET_1),
             2 => Ok(SET_2),

@@ -13,7 +13,7 @@ use Rattle.scheme.proofs.key_test.test_card.Goals as goal
 pub returns-then-card-set : goal.returns-then-card-set
 returns-then-card-set g c =
     let set = c.in_ok-set.set in
-    let found = c.in_ok-set.ensures.set_or_refusal in
+    let found = c.in_ok-set.ensures in
     let N = length_of c.args.set in
     let W = width_of c.args.set in
     let card = c.args.card.now in
@@ -26,7 +26,7 @@ returns-then-card-set g c =
 pub returns-then-not-all_hold_digits : goal.returns-then-not-all_hold_digits
 returns-then-not-all_hold_digits g c =
     let set = c.in_ok-set.set in
-    let found = c.in_ok-set.ensures.set_or_refusal in
+    let found = c.in_ok-set.ensures in
     let N = length_of c.args.set in
     let W = width_of c.args.set in
     let card = c.args.card.now in
@@ -50,7 +50,7 @@ test_parts-requires g c =
 pub returns : goal.returns
 returns g c =
     let set = c.in_ok-set.set in
-    let found = c.in_ok-set.ensures.set_or_refusal in
+    let found = c.in_ok-set.ensures in
     let N = length_of c.args.set in
     let W = width_of c.args.set in
     let card = c.args.card.now in

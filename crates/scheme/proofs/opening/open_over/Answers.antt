@@ -8,7 +8,7 @@ use Rattle.scheme.proofs.opening.open_over.Goals as goal
 pub read_balanced-requires : goal.read_balanced-requires
 read_balanced-requires g c =
     let set = c.args.set in
-    record { width = (omega (arith, wide set), set.narrow); some = omega arith; enough = part_enough set (length c.args.c.now) (length c.args.sealed.now) (omega arith) (omega arith) }
+    record { some = omega arith; enough = rw c.bits.ensures (part_enough set (length c.args.c.now) (length c.args.sealed.now) (omega arith) (omega arith)) }
 
 pub find_m-requires : goal.find_m-requires
 find_m-requires g c =
@@ -26,7 +26,7 @@ pub read_padded-requires : goal.read_padded-requires
 read_padded-requires g c =
     let set = c.args.set in
     let lz : length c.find_m.new.z ≡ set.n = omega (arith, c.requires, c.find_m.auto.z) in
-    record { width = (omega (arith, wide set), set.narrow); some = omega arith; enough = part_enough set (length c.find_m.new.z) (length c.args.hq.now) lz (omega arith) }
+    record { some = omega arith; enough = rw c.bits-2.ensures (part_enough set (length c.find_m.new.z) (length c.args.hq.now) lz (omega arith)) }
 
 pub find_r-requires : goal.find_r-requires
 find_r-requires g c =
@@ -48,7 +48,7 @@ returns-then-not-find_r g c =
       opened =
           none_opened set.n set.width c.args.f.now c.args.fp.now c.args.hq.now c.args.sealed.now c.read_ternary.new.out c.read_ternary-2.new.out c.find_m.new.m c.read_balanced.new.out c.read_padded.new.out c.find_r.result
           (length c.args.k.now) (length c.args.l.now) (length c.args.c.now) (length c.find_m.new.z) (omega (arith, set.length)) (omega (arith, c.requires)) (omega (arith, c.requires)) (omega (arith, c.requires)) (omega (arith, c.requires, c.find_m.auto.z)) long
-          c.read_ternary.ensures.digits c.read_ternary-2.ensures.digits c.read_balanced.ensures.words c.read_padded.ensures.words c.find_m.ensures.message c.find_r.ensures.answer
+          c.read_ternary.ensures.digits c.read_ternary-2.ensures.digits (rw c.bits.ensures at c.read_balanced.ensures.words) (rw c.bits-2.ensures at c.read_padded.ensures.words) c.find_m.ensures.message c.find_r.ensures.answer
           c.if-not-find_r.true c.args.pair.now;
       count = omega (arith, long, c.find_m.ensures.count, c.find_r.ensures.count);
     }
@@ -61,7 +61,7 @@ returns g c =
       opened =
           pair_opened set.n set.width c.args.f.now c.args.fp.now c.args.hq.now c.args.sealed.now c.read_ternary.new.out c.read_ternary-2.new.out c.find_m.new.m c.read_balanced.new.out c.read_padded.new.out c.find_r.result
           (length c.args.k.now) (length c.args.l.now) (length c.args.c.now) (length c.find_m.new.z) (omega (arith, set.length)) (omega (arith, c.requires)) (omega (arith, c.requires)) (omega (arith, c.requires)) (omega (arith, c.requires, c.find_m.auto.z)) long
-          c.read_ternary.ensures.digits c.read_ternary-2.ensures.digits c.read_balanced.ensures.words c.read_padded.ensures.words c.find_m.ensures.message c.find_r.ensures.answer
+          c.read_ternary.ensures.digits c.read_ternary-2.ensures.digits (rw c.bits.ensures at c.read_balanced.ensures.words) (rw c.bits-2.ensures at c.read_padded.ensures.words) c.find_m.ensures.message c.find_r.ensures.answer
           c.if-not-find_r.false c.find_r.new.r (c.find_r.ensures.factor c.if-not-find_r.false) c.args.pair.now c.write_pair.new.pair c.write_pair.ensures;
       count = omega (arith, long, c.find_m.ensures.count, c.find_r.ensures.count);
     }

@@ -1,8 +1,7 @@
-use Rattle.std.proofs.Common.{◌≡◌, ◌-◌, ◌%◌, ◌^◌, [], ◌∷◌, ◌++◌, length, pos, neg_ℤ, sum, sym, ap, ◌∙◌, subst, arith}
+use Rattle.std.proofs.Common.{◌≡◌, ◌-◌, ◌^◌, [], ◌∷◌, ◌++◌, length, pos, neg_ℤ, sum, sym, ap, ◌∙◌, subst, arith}
 use Rattle.algebra.specs.Polynomials.{Balanced, as_word}
 use Rattle.algebra.specs.Radix.{Under}
 use Rattle.algebra.proofs.LastCoefficient.{minus_bits}
-use Rattle.algebra.proofs.WordBits.{masked}
 use Rattle.arithmetic.specs.Products.{integers_of}
 use Rattle.scheme.specs.WordParts.{part_words}
 use Rattle.scheme.specs.WordPolynomials.{balanced}
@@ -11,15 +10,14 @@ use Rattle.scheme.proofs.polynomial.read_balanced.Goals as goal
 
 pub returns : goal.returns
 returns c =
-    let w = c.args.width in
+    let w = c.args.width.bits in
     let out = c.args.out.now in
     let n = length out in
     let bytes = c.args.bytes.now in
     let cs = part_words w (n - 1) bytes in
     let front = c.unpack_words.new.out in
     let v : _ ≡ as_word (2 ^ w) (neg_ℤ (pos (sum cs))) =
-    masked w c.from.result (omega arith) ∙ ap (λ k. k % 2 ^ w) c.from.ensures
-    ∙ minus_bits w c.wrapping_neg.result c.sum_words-total.result (sum front) (omega arith) c.wrapping_neg.ensures c.sum_words-total.ensures
+    c.low.ensures ∙ minus_bits w c.wrapping_neg.result c.sum_words-total.result (sum front) (omega arith) c.wrapping_neg.ensures c.sum_words-total.ensures
     ∙ ap (λ xs. as_word (2 ^ w) (neg_ℤ (pos (sum xs)))) (front_is w bytes out front c.requires.some c.unpack_words.ensures) in
     let words : _ ≡ balanced w cs = last_written w bytes out front c.requires.some c.unpack_words.ensures _ ∙ ap (λ t. cs ++ t ∷ []) v in
     record {

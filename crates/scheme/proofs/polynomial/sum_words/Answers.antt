@@ -1,14 +1,12 @@
-use Rattle.std.proofs.Common.{◌+◌, ◌%◌, get_or, sum, sym, ap, ◌∙◌}
+use Rattle.std.proofs.Common.{◌≡◌, ◌+◌, ◌%◌, refl, ap, ◌∙◌, rules}
 use native.Mathlib.Nat.{mod-add-mod}
-use Rattle.std.proofs.lemmas.List.{take_all}
-use Rattle.std.proofs.lemmas.List.Sums.{sum_by_more}
+use Rattle.std.proofs.lemmas.Iterator.{YieldsList-from_slice}
+use Rattle.std.proofs.lemmas.Iterator.Consumers.{fold_from_yields_List}
+use Rattle.std.proofs.lemmas.List.Folds.{fold_along}
 use Rattle.scheme.proofs.polynomial.sum_words.Goals as goal
 
-pub loop-word-preserved : goal.loop-word-preserved
-loop-word-preserved c =
-    let s = c.loop-word in
-    let cs = c.args.words.now in
-    ap (λ n. (n + get_or cs s.word-index 0) % 65536) s.invariant ∙ mod-add-mod _ 65536 _ ∙ ap (λ n. n % 65536) (sym (sum_by_more (λ x. x) cs s.word-index 0 c.loop-word-test.true))
-
 pub returns : goal.returns
-returns c = c.loop-word.invariant ∙ ap (λ xs. sum xs % 65536) (take_all _ _ c.loop-word-test.false)
+returns c =
+    let words = c.args.words.now in
+    fold_from_yields_List _ (λ a x. (a + x) % 65536) 0 _ c.fold.ensures.ran (YieldsList-from_slice words cc) (λ a x b q k. search rules)
+    ∙ fold_along (λ a x. (a + x) % 65536) ◌+◌ (λ a b. a ≡ b % 65536) (λ a b x e. ap (λ n. (n + x) % 65536) e ∙ mod-add-mod b 65536 x) 0 0 words refl

@@ -4,13 +4,10 @@ use Rattle.scheme.specs.WordPolynomials.{ReadsBack}
 use Rattle.scheme.proofs.WordPolynomials.{polynomial_back}
 use Rattle.scheme.proofs.polynomial.write_all_but_last.Goals as goal
 
-pub returns : goal.returns
-returns c =
-    let w = c.args.width in
+pub returns-clause-reads_back : goal.returns-clause-reads_back
+returns-clause-reads_back c u =
+    let w = c.args.width.bits in
     let p = c.args.polynomial.now in
     let front : length p - 1 - 0 ≡ length p - 1 = omega arith in
     let output = c.pack_words.ensures ∙ ap (λ k. word_part w (take k p)) front in
-    record {
-      output = output;
-      reads_back = λ u. subst (ReadsBack w p) (sym output) (polynomial_back w p (omega arith) c.requires.some u);
-    }
+    subst (ReadsBack w p) (sym output) (polynomial_back w p (omega arith) c.requires.some u)

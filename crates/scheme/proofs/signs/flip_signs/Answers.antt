@@ -13,17 +13,18 @@ loop-i-preserved c =
     let s = c.loop-i in
     let entry = c.args.v.now in
     let i = s.i in
-    let there : get_or s.v i (digit 0) ≡ get_or entry i (digit 0) = s.invariant.1 i (omega arith) in
+    let r = c.index-v-i.result in
+    let d = get_or s.v i r in
+    let was : d ≡ get_or entry i (digit 0) = sym c.index-v-i.is ∙ get_or_read s.v i r (omega arith) c.index-v-i.is (digit 0) ∙ s.invariant.1 i (omega arith) in
     elim c.if-i-eq0.branch [
       | then-i-eq0 w ↦
           let x = w.negation.result in
-          let was : w.index-v-i.result ≡ get_or s.v i (digit 0) = get_or_read s.v i w.index-v-i.result (omega arith) w.index-v-i.is (digit 0) in
-          let same : x ≡ flipped_at entry i = negation_is w.index-v-i.result x w.negation.ensures.negates ∙ ap negated (was ∙ there) ∙ sym (flip_even entry i w.if-i-eq0.true) in
+          let same : x ≡ flipped_at entry i = negation_is d x w.negation.ensures.negates ∙ ap negated was ∙ sym (flip_even entry i w.if-i-eq0.true) in
           flip_more s.v _ entry i s.invariant (λ k ne. ap (λ xs. get_or xs k (digit 0)) w.v-is ∙ get_or-set_other s.v i k x (digit 0) ne)
           (ap (λ xs. get_or xs i (digit 0)) w.v-is ∙ get_or-set_same s.v i x (digit 0) (omega arith) ∙ same)
       | else-i-eq0 w ↦
-          flip_more s.v _ entry i s.invariant (λ k ne. ap (λ xs. get_or xs k (digit 0)) w.v-is)
-          (ap (λ xs. get_or xs i (digit 0)) w.v-is ∙ there ∙ sym (flip_odd entry i w.if-i-eq0.false))
+          flip_more s.v _ entry i s.invariant (λ k ne. ap (λ xs. get_or xs k (digit 0)) w.v-is ∙ get_or-set_other s.v i k d (digit 0) ne)
+          (ap (λ xs. get_or xs i (digit 0)) w.v-is ∙ get_or-set_same s.v i d (digit 0) (omega arith) ∙ was ∙ sym (flip_odd entry i w.if-i-eq0.false))
     ]
 
 pub returns : goal.returns

@@ -1,9 +1,7 @@
-use Rattle.std.proofs.Common.{◌≡◌, ◌+◌, ◌*◌, ◌^◌, ◌<◌}
-use Rattle.scheme.specs.TernaryParts.{codes}
-use Rattle.algebra.proofs.Radix.{Regroups}
+use Rattle.std.proofs.Common.{◌≡◌, ℕ, ◌<◌, get_or}
+use Rattle.algebra.specs.Radix.{digit_at}
+use Rattle.arithmetic.specs.Digits.{digit}
 use Rattle.scheme.proofs.ternary.unpack.Given as goal
 
 abbrev pub invariant-loop-i : goal.invariant-loop-i
-invariant-loop-i l =
-    (l.byte < 3 ^ l.held) × (l.held < 5) × (5 * l.at ≡ l.i + l.held)
-    × Regroups 243 3 l.byte (3 ^ l.held) l.at l.i l.bytes (codes l.out)
+invariant-loop-i l = (k : ℕ) → k < l.i → (get_or l.out k (digit 0)).code ≡ digit_at 3 5 l.bytes k

@@ -1,17 +1,11 @@
-use Rattle.std.proofs.Common.{length, sym, ◌∙◌, subst, rules}
+use Rattle.std.proofs.Common.{arith, length, sym, subst}
 use Rattle.scheme.specs.WordParts.{TakesBits}
-use Rattle.scheme.proofs.WordBytes.{shape_is, takes_bits}
+use Rattle.scheme.proofs.WordBytes.{takes_bits}
 use Rattle.scheme.proofs.words.read_word_part.Goals as goal
 
-pub returns : goal.returns
-returns c =
+pub returns-clause-bit_by_bit : goal.returns-clause-bit_by_bit
+returns-clause-bit_by_bit c _ =
     let w = c.args.width in
-    let count = length c.args.out.now in
     let bytes = c.args.bytes.now in
-    let wide = shape_is w count (sym c.has_shape.ensures ∙ c.if-not-has_shape.false) in
-    let written = c.unpack_words.ensures in
-    record {
-      answer = search rules;
-      output = written;
-      bit_by_bit = λ _. subst (TakesBits w bytes) (sym written) (takes_bits w count bytes wide);
-    }
+    let same = c.in_ok-width.ensures.1 in
+    subst (TakesBits w bytes) (sym (rw same at c.unpack_words.ensures)) (takes_bits w (length c.args.out.now) bytes (omega arith))

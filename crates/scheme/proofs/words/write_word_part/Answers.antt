@@ -1,17 +1,18 @@
-use Rattle.std.proofs.Common.{length, sym, ap, ◌∙◌, subst, rules}
+use Rattle.std.proofs.Common.{arith, length, sym, ap, ◌∙◌, subst}
 use Rattle.scheme.specs.WordParts.{HoldsBits, part_words}
-use Rattle.scheme.proofs.WordBytes.{shape_is, holds_bits, words_back}
+use Rattle.scheme.proofs.WordBytes.{holds_bits, words_back}
 use Rattle.scheme.proofs.words.write_word_part.Goals as goal
 
-pub returns : goal.returns
-returns c =
+pub returns-clause-bit_by_bit : goal.returns-clause-bit_by_bit
+returns-clause-bit_by_bit c _ =
     let w = c.args.width in
     let cs = c.args.coefficients.now in
-    let wide = shape_is w (length cs) (sym c.has_shape.ensures ∙ c.if-not-has_shape.false) in
-    let written = c.pack_words.ensures in
-    record {
-      answer = search rules;
-      output = written;
-      bit_by_bit = λ _. subst (HoldsBits w cs) (sym written) (holds_bits w cs wide);
-      reads_back = λ _ u. ap (part_words w (length cs)) written ∙ words_back w cs wide u;
-    }
+    let same = c.in_ok-width.ensures.1 in
+    subst (HoldsBits w cs) (sym (rw same at c.pack_words.ensures)) (holds_bits w cs (omega arith))
+
+pub returns-clause-reads_back : goal.returns-clause-reads_back
+returns-clause-reads_back c _ u =
+    let w = c.args.width in
+    let cs = c.args.coefficients.now in
+    let same = c.in_ok-width.ensures.1 in
+    ap (part_words w (length cs)) (rw same at c.pack_words.ensures) ∙ words_back w cs (omega arith) u

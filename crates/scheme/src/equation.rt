@@ -12,8 +12,8 @@ pub(crate) fn divide_by_3_phi1(d: &mut [u16])
     ensures { SameMod 65536 (length d.old) (integers_of d.new) (λ k. pos 43691 *ℤ divided integers (integers_of d.old) k) }
 {
     let mut rest: u16 = 0;
-    for i in 0..d.len() {
-        rest = rest.wrapping_sub(d[i]);
-        d[i] = rest.wrapping_mul(THIRD);
+    for word in d.iter_mut() {
+        rest = rest.wrapping_sub(*word);
+        *word = rest.wrapping_mul(THIRD);
     }
 }

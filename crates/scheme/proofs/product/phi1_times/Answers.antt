@@ -1,13 +1,15 @@
-use Rattle.std.proofs.Common.{◌≡◌, true, length, arith, lit<}
+use Rattle.std.proofs.Common.{◌≡◌, true, length, refl, arith, lit<}
 use Rattle.algebra.specs.Stands.{residue_number}
+use Rattle.algebra.proofs.Cyclic.{cyclic_laws}
+use Rattle.algebra.proofs.Integers.{mod_laws}
 use Rattle.algebra.proofs.Stands.{residues_stand}
-use Rattle.arithmetic.specs.Digits.{coefficients}
+use Rattle.arithmetic.specs.Products.{integers_of}
 use Rattle.arithmetic.proofs.Standing.{phi1_words, served}
-use Rattle.scheme.proofs.lifting.times_phi1_words.Goals as goal
+use Rattle.scheme.proofs.product.phi1_times.Goals as goal
 
 pub returns : goal.returns
 returns c =
-    let ds = c.args.s.now in
+    let v = c.args.v.now in
     let fits : c.times_phi1.result ≡ true = served c.times_phi1.result (λ e. c.times_phi1.ensures.refused_where_lengths_differ e (omega arith)) in
-    phi1_words (length ds) c.signed_words.new.out c.times_phi1.new.out (coefficients ds) (omega arith) (omega arith) c.signed_words.ensures
+    phi1_words (length v) v c.times_phi1.new.out (integers_of v) refl (omega arith) ((cyclic_laws (mod_laws 65536) (length v)).rfl (integers_of v))
     (c.times_phi1.ensures.over_the_integers fits (omega arith) 65536 (residue_number 65536) (residues_stand 65536 (lit< tt)))

@@ -51,18 +51,17 @@ inverse_of_digits w n f x fq narrow lf lx same found =
     (subst (λ k. InverseMod (2 ^ w) k (integers_of x) (integers_of fq)) lx found.inverse)
 
 -- ---- the public key
-pub published : (w n : ℕ) (f g : List Digit) (fq p y h : List ℕ) → w ≤ 16 → length g ≡ n → length p ≡ n → length y ≡ n → InverseMod (2 ^ w) n (coefficients f) (integers_of fq) →
-    SameMod 65536 (length g) (integers_of p) (times (length g) (coefficients g) (integers_of fq)) → SameMod 65536 (length p) (integers_of y) (times (length p) (Φ1 (length p)) (integers_of p)) →
+pub published : (w n : ℕ) (f g : List Digit) (fq p y h : List ℕ) → w ≤ 16 → length y ≡ n → InverseMod (2 ^ w) n (coefficients f) (integers_of fq) →
+    SameMod 65536 n (integers_of p) (times n (coefficients g) (integers_of fq)) → SameMod 65536 n (integers_of y) (times n (Φ1 n) (integers_of p)) →
     Under (2 ^ w) h → SameMod (2 ^ w) (length y) (integers_of h) (scale (pos 3) (integers_of y)) → Published n w (coefficients f) (coefficients g) h
-published w n f g fq p y h narrow lg lp ly inverse hp hy small hh =
+published w n f g fq p y h narrow ly inverse hp hy small hh =
     let C = cyclic_laws (mod_laws (2 ^ w)) n in
     record {
       fq = integers_of fq;
       fq_inverse = inverse;
       is =
           public_is (2 ^ w) n (coefficients g) (integers_of fq) (coefficients g) (integers_of p) (integers_of y) (integers_of h) (C.rfl (coefficients g))
-          (narrowed w n narrow (subst (λ k. SameMod 65536 k (integers_of p) (times k (coefficients g) (integers_of fq))) lg hp))
-          (narrowed w n narrow (subst (λ k. SameMod 65536 k (integers_of y) (times k (Φ1 k) (integers_of p))) lp hy))
+          (narrowed w n narrow hp) (narrowed w n narrow hy)
           (subst (λ k. SameMod (2 ^ w) k (integers_of h) (scale (pos 3) (integers_of y))) ly hh);
       small = small;
     }

@@ -1,5 +1,5 @@
 -- What seal, open, the key test and make work out on lists of digits and words.
-use Rattle.std.proofs.Common.{◌≡◌, ℕ, ◌-◌, ◌^◌, ◌<◌, ◌≤◌, Bool, true, false, ◌≢◌, ◌⊎◌, List, [], ◌∷◌, length, get_or, take, drop, pos, ◌*ℤ◌, nat_abs, ◌≤ℤ◌, is_some, Some, None, Option, MatchBool, MatchOption, sym, refl, ap, ◌∙◌, subst, inr, arith, lit<, pow_pos}
+use Rattle.std.proofs.Common.{◌≡◌, ℕ, ◌-◌, ◌^◌, ◌<◌, ◌≤◌, Bool, true, false, ◌≢◌, List, [], ◌∷◌, length, get_or, take, drop, pos, ◌*ℤ◌, nat_abs, ◌≤ℤ◌, is_some, Some, None, Option, MatchBool, MatchOption, sym, refl, ap, ◌∙◌, subst, inr, arith, lit<, pow_pos}
 use native.Mathlib.Nat.{pow-le-pow_right}
 use lib.Signed.{le_z}
 use Rattle.std.specs.List.{AllWithin, HoldsAt}
@@ -27,23 +27,21 @@ use Rattle.scheme.specs.Readings.{Small, SignsRead}
 use Rattle.scheme.specs.Sealing.{encrypted, lift_of}
 
 -- ---- seal
-pub encrypt_is : (n : ℕ) (r m : List Digit) (h p y c : List ℕ) → length r ≡ n → length m ≡ n → length p ≡ n →
-    SameMod 65536 (length r) (integers_of p) (times (length r) (coefficients r) (integers_of h)) → SameMod 65536 (length m) (integers_of y) (lift_of (length m) (coefficients m)) →
+pub encrypt_is : (n : ℕ) (r m : List Digit) (h p y c : List ℕ) → length p ≡ n → SameMod 65536 n (integers_of p) (times n (coefficients r) (integers_of h)) → SameMod 65536 n (integers_of y) (lift_of n (coefficients m)) →
     SameMod 65536 (length p) (integers_of c) (plus (integers_of p) (integers_of y)) →
     SameMod 65536 n (integers_of c) (encrypted n (integers_of h) (coefficients r) (coefficients m))
-encrypt_is n r m h p y c lr lm lp hp hy hc =
+encrypt_is n r m h p y c lp hp hy hc =
     let C = cyclic_laws (mod_laws 65536) n in
-    C.tr (subst (λ k. SameMod 65536 k (integers_of c) (plus (integers_of p) (integers_of y))) lp hc)
-    (C.add_cong (subst (λ k. SameMod 65536 k (integers_of p) (times k (coefficients r) (integers_of h))) lr hp) (subst (λ k. SameMod 65536 k (integers_of y) (lift_of k (coefficients m))) lm hy))
+    C.tr (subst (λ k. SameMod 65536 k (integers_of c) (plus (integers_of p) (integers_of y))) lp hc) (C.add_cong hp hy)
 
 -- Lift(m), from the s that lifts m, and s as words
-pub lift_is : (n : ℕ) (m s : List Digit) (u y : List ℕ) → length s ≡ n → length u ≡ n → Agree integers n (coefficients s) (lifting n (coefficients m)) →
-    SameMod 65536 (length s) (integers_of u) (coefficients s) → SameMod 65536 (length u) (integers_of y) (times (length u) (Φ1 (length u)) (integers_of u)) →
-    SameMod 65536 n (integers_of y) (lift_of n (coefficients m))
-lift_is n m s u y ls lu hs hu hy =
+pub lift_is : (n : ℕ) (m s : List Digit) (u y : List ℕ) → length m ≡ n → length s ≡ n → Agree integers (length m) (coefficients s) (lifting (length m) (coefficients m)) →
+    SameMod 65536 (length s) (integers_of u) (coefficients s) → SameMod 65536 n (integers_of y) (times n (Φ1 n) (integers_of u)) → SameMod 65536 n (integers_of y) (lift_of n (coefficients m))
+lift_is n m s u y lm ls hs hu hy =
     let C = cyclic_laws (mod_laws 65536) n in
-    C.tr (subst (λ k. SameMod 65536 k (integers_of y) (times k (Φ1 k) (integers_of u))) lu hy)
-    (mul_left C (Φ1 n) (C.tr (subst (λ k. SameMod 65536 k (integers_of u) (coefficients s)) ls hu) (agree_mod 65536 n hs)))
+    C.tr hy
+    (mul_left C (Φ1 n)
+    (C.tr (subst (λ k. SameMod 65536 k (integers_of u) (coefficients s)) ls hu) (agree_mod 65536 n (subst (λ k. Agree integers k (coefficients s) (lifting k (coefficients m))) lm hs))))
 
 -- ---- products of digits
 pub times_digits_is : (n : ℕ) (c u y : List ℕ) (f : List Digit) → length f ≡ n → SameMod 65536 (length f) (integers_of u) (coefficients f) → SameMod 65536 n (integers_of y) (times n (integers_of c) (integers_of u)) →
@@ -52,11 +50,11 @@ times_digits_is n c u y f lf hu hy =
     let C = cyclic_laws (mod_laws 65536) n in
     C.tr hy (mul_left C (integers_of c) (subst (λ k. SameMod 65536 k (integers_of u) (coefficients f)) lf hu))
 
-pub digits_times_is : (n : ℕ) (u h y : List ℕ) (r : List Digit) → length u ≡ n → SameMod 65536 n (integers_of u) (coefficients r) → SameMod 65536 (length u) (integers_of y) (times (length u) (integers_of u) (integers_of h)) →
+pub digits_times_is : (n : ℕ) (u h y : List ℕ) (r : List Digit) → length r ≡ n → SameMod 65536 (length r) (integers_of u) (coefficients r) → SameMod 65536 n (integers_of y) (times n (integers_of u) (integers_of h)) →
     SameMod 65536 n (integers_of y) (times n (coefficients r) (integers_of h))
-digits_times_is n u h y r lu hu hy =
+digits_times_is n u h y r lr hu hy =
     let C = cyclic_laws (mod_laws 65536) n in
-    C.tr (subst (λ k. SameMod 65536 k (integers_of y) (times k (integers_of u) (integers_of h))) lu hy) (mul_right C (integers_of h) hu)
+    C.tr hy (mul_right C (integers_of h) (subst (λ k. SameMod 65536 k (integers_of u) (coefficients r)) lr hu))
 
 -- ---- digits in products modulo 3
 -- words that hold the codes of digits
@@ -109,13 +107,13 @@ one_told (d ∷ rest) xs r some e one h =
 pub not_one : (ds : List Digit) (d : Digit) → 1 ≤ length ds → number d ≡ coefficients ds 0 → (d.code ≡ 1 → ⊥) → Agree integers (length ds) (coefficients ds) (power integers 0) → ⊥
 not_one ds d some e not_code a = not_code (code_one d.code (e ∙ a.at 0 some ∙ power_at integers 0 0 refl))
 
--- a product of words 0, 1, 2 of which one factor ends in 0
-whole_product : (n : ℕ) (u v out : List ℕ) → n ≤ 1408 → length u ≡ n → length v ≡ n → Under 3 u → Under 3 v → (get_or u (n - 1) 0 ≡ 0) ⊎ (get_or v (n - 1) 0 ≡ 0) → out ≡ cyclic_product u v →
+-- a product of words 0, 1, 2 of which the second factor ends in 0
+whole_product : (n : ℕ) (u v out : List ℕ) → n ≤ 1408 → length u ≡ n → length v ≡ n → Under 3 u → Under 3 v → get_or v (n - 1) 0 ≡ 0 → out ≡ cyclic_product u v →
     Agree integers n (integers_of out) (times n (integers_of u) (integers_of v))
 whole_product n u v out few lu lv hu hv last e = record {
   at = λ k l.
       ap (λ xs. pos (get_or xs k 0)) e
-      ∙ (whole u v (omega arith) (lv ∙ sym lu) hu hv (subst (λ i. (get_or u (i - 1) 0 ≡ 0) ⊎ (get_or v (i - 1) 0 ≡ 0)) (sym lu) last) k (omega arith)).unwrapped
+      ∙ (whole u v (omega arith) (lv ∙ sym lu) hu hv (inr (subst (λ i. get_or v (i - 1) 0 ≡ 0) (sym lu) last)) k (omega arith)).unwrapped
       ∙ ap (λ i. times i (integers_of u) (integers_of v) k) lu;
 }
 
@@ -126,21 +124,19 @@ pub product_3_is : (n : ℕ) (a b d : List Digit) (u v p : List ℕ) → 1 ≤ n
 product_3_is n a b d u v p some few la lb lu lv lp t hu hv hp hd =
     m_is n some (coefficients b) (coefficients a) (integers_of u) (integers_of v) (integers_of p) (coefficients d)
     (codes_are n a u (omega arith) hu) (codes_are n b v (omega arith) hv)
-    (whole_product n u v p few lu lv (codes_under a u (lu ∙ sym la) hu) (codes_under b v (lv ∙ sym lb) hv) (inr (codes_end n b v some lb hv t)) hp)
+    (whole_product n u v p few lu lv (codes_under a u (lu ∙ sym la) hu) (codes_under b v (lv ∙ sym lb) hv) (codes_end n b v some lb hv t) hp)
     (subst (λ k. Agree integers k (coefficients d) (λ i. centre 3 (reduce integers k (integers_of p) i))) lp hd)
 
 -- ---- open
-pub message_is : (n w : ℕ) (f fp a m : List Digit) (c y : List ℕ) → 2 ≤ n → w ≤ 16 → length c ≡ n → length y ≡ n → length a ≡ n →
-    SameMod 65536 (length c) (integers_of y) (times (length c) (integers_of c) (coefficients f)) → SameMod 3 (length y) (coefficients a) (λ k. centre (2 ^ w) (integers_of y k)) →
-    Agree integers (length a) (coefficients m) (opened_m (length a) (coefficients fp) (coefficients a)) →
+pub message_is : (n w : ℕ) (f fp a m : List Digit) (c y : List ℕ) → 2 ≤ n → w ≤ 16 → length y ≡ n →
+    SameMod 65536 n (integers_of y) (times n (integers_of c) (coefficients f)) → SameMod 3 (length y) (coefficients a) (λ k. centre (2 ^ w) (integers_of y k)) →
+    Agree integers n (coefficients m) (opened_m n (coefficients fp) (coefficients a)) →
     Agree integers n (coefficients m) (opened_m n (coefficients fp) (opened_a n (2 ^ w) (coefficients f) (integers_of c)))
-message_is n w f fp a m c y two narrow lc ly la hy ha hm =
+message_is n w f fp a m c y two narrow ly hy ha hm =
     m_is n (omega arith) (coefficients fp) (opened_a n (2 ^ w) (coefficients f) (integers_of c)) (coefficients a) (coefficients fp) (times n (coefficients a) (coefficients fp)) (coefficients m)
-    (a_is n w narrow (coefficients f) (integers_of c) (coefficients f) (integers_of y) (coefficients a) ((cyclic_laws (mod_laws 65536) n).rfl (coefficients f))
-    (subst (λ k. SameMod 65536 k (integers_of y) (times k (integers_of c) (coefficients f))) lc hy)
+    (a_is n w narrow (coefficients f) (integers_of c) (coefficients f) (integers_of y) (coefficients a) ((cyclic_laws (mod_laws 65536) n).rfl (coefficients f)) hy
     (subst (λ k. SameMod 3 k (coefficients a) (λ i. centre (2 ^ w) (integers_of y i))) ly ha))
-    ((cyclic_laws (mod_laws 3) n).rfl (coefficients fp)) ((cyclic_laws integer_laws n).rfl (times n (coefficients a) (coefficients fp)))
-    (subst (λ k. Agree integers k (coefficients m) (opened_m k (coefficients fp) (coefficients a))) la hm)
+    ((cyclic_laws (mod_laws 3) n).rfl (coefficients fp)) ((cyclic_laws integer_laws n).rfl (times n (coefficients a) (coefficients fp))) hm
 
 -- what is read of a polynomial is read of one that is the same centred
 pub reads_same : (n m w : ℕ) (u v : Poly) → m ≡ n → Agree integers n (λ k. centre (2 ^ w) (u k)) (λ k. centre (2 ^ w) (v k)) → (x : Option (Unit {0})) (ds : List Digit) → SignsRead m w u x ds → SignsRead n w v x ds
@@ -158,9 +154,8 @@ module _ (n w : ℕ) (u v : Poly) (same : Agree integers n (λ k. centre (2 ^ w)
   same_small : ((k : ℕ) → k < n → nat_abs (v k) ≤ 1) → Small n w u
   same_small h k l = subst (λ z. nat_abs z ≤ 1) (sym (same.at k l)) (h k l)
 
-module _ (n w : ℕ) (c hq y b v : List ℕ) (m r : List Digit) (two : 2 ≤ n) (narrow : w ≤ 16) (lm : length m ≡ n) (lc : length c ≡ n) (lb : length b ≡ n) (lv : length v ≡ n)
-    (hy : SameMod 65536 (length m) (integers_of y) (lift_of (length m) (coefficients m)))
-    (hb : SameMod 65536 (length c) (integers_of b) (less (integers_of c) (integers_of y))) (hv : SameMod 65536 (length b) (integers_of v) (times (length b) (integers_of b) (integers_of hq))) where
+module _ (n w : ℕ) (c hq y b v : List ℕ) (m r : List Digit) (two : 2 ≤ n) (narrow : w ≤ 16) (lc : length c ≡ n) (lv : length v ≡ n) (hy : SameMod 65536 n (integers_of y) (lift_of n (coefficients m)))
+    (hb : SameMod 65536 (length c) (integers_of b) (less (integers_of c) (integers_of y))) (hv : SameMod 65536 n (integers_of v) (times n (integers_of b) (integers_of hq))) where
   -- r'
   abbrev opened : Poly
   opened = opened_r n (2 ^ w) (integers_of hq) (integers_of c) (lifting n (coefficients m))
@@ -168,10 +163,7 @@ module _ (n w : ℕ) (c hq y b v : List ℕ) (m r : List Digit) (two : 2 ≤ n) 
   same : Agree integers n (λ k. centre (2 ^ w) (reduce integers n (integers_of v) k)) opened
   same =
       r_is n w (omega arith) narrow (integers_of hq) (integers_of c) (lifting n (coefficients m)) (lifting n (coefficients m)) (integers_of y) (integers_of b) (integers_of v)
-      ((cyclic_laws integer_laws n).rfl (lifting n (coefficients m)))
-      (subst (λ k. SameMod 65536 k (integers_of y) (lift_of k (coefficients m))) lm hy)
-      (subst (λ k. SameMod 65536 k (integers_of b) (less (integers_of c) (integers_of y))) lc hb)
-      (subst (λ k. SameMod 65536 k (integers_of v) (times k (integers_of b) (integers_of hq))) lb hv)
+      ((cyclic_laws integer_laws n).rfl (lifting n (coefficients m))) hy (subst (λ k. SameMod 65536 k (integers_of b) (less (integers_of c) (integers_of y))) lc hb) hv
 
   small_r : Small n w (reduce integers n (integers_of v)) → Ternary n opened
   small_r h = reduced_ternary n (2 ^ w) (pow_pos w) (times n (less (integers_of c) (times n (Φ1 n) (lifting n (coefficients m)))) (integers_of hq)) (small_same n w (reduce integers n (integers_of v)) opened same h)
@@ -185,22 +177,21 @@ module _ (n w : ℕ) (c hq y b v : List ℕ) (m r : List Digit) (two : 2 ≤ n) 
       by (Some u) h = (small_r h.0, (cyclic_laws integer_laws n).tr h.1 same)
 
 -- ---- the key test
-pub three_told : (n : ℕ) (f fp d : List Digit) (b : Bool) → 2 ≤ n → length f ≡ n → length d ≡ n → Agree integers (length f) (coefficients d) (opened_m (length f) (coefficients fp) (coefficients f)) →
+pub three_told : (n : ℕ) (f fp d : List Digit) (b : Bool) → 2 ≤ n → length d ≡ n → Agree integers n (coefficients d) (opened_m n (coefficients fp) (coefficients f)) →
     Tells b (Agree integers (length d) (coefficients d) (power integers 0)) → Tells b (InverseMod 3 n (coefficients f) (coefficients fp))
-three_told n f fp d b two lf ld hd tells =
-    let read = subst (λ k. Agree integers k (coefficients d) (opened_m k (coefficients fp) (coefficients f))) lf hd in
+three_told n f fp d b two ld read tells =
     let three : 2 < 3 = lit< tt in
     told_as (subst (λ k. Tells b (Agree integers k (coefficients d) (power integers 0))) ld tells)
     (λ e. centred_one 3 n (lit< tt) two (times n (coefficients f) (coefficients fp)) three (coefficients d) read e)
     (λ i. one_centred 3 n (lit< tt) two (times n (coefficients f) (coefficients fp)) three (coefficients d) read i)
 
-module _ (n w : ℕ) (h hq v : List ℕ) (d : List Digit) (two : 2 ≤ n) (wide : 2 ≤ w) (narrow : w ≤ 16) (lh : length h ≡ n) (lv : length v ≡ n)
-    (hv : SameMod 65536 (length h) (integers_of v) (times (length h) (integers_of h) (integers_of hq))) where
+module _ (n w : ℕ) (h hq v : List ℕ) (d : List Digit) (two : 2 ≤ n) (wide : 2 ≤ w) (narrow : w ≤ 16) (lv : length v ≡ n)
+    (hv : SameMod 65536 n (integers_of v) (times n (integers_of h) (integers_of hq))) where
   big : 2 < 2 ^ w
   big = let m : 2 ^ 2 ≤ 2 ^ w = pow-le-pow_right {n = 2} (lit< tt) {i = 2} {j = w} wide in omega arith
 
   product : SameMod (2 ^ w) n (integers_of v) (times n (integers_of h) (integers_of hq))
-  product = narrowed w n narrow (subst (λ k. SameMod 65536 k (integers_of v) (times k (integers_of h) (integers_of hq))) lh hv)
+  product = narrowed w n narrow hv
 
   of_v : InverseMod (2 ^ w) n (integers_of h) (integers_of hq) → Rattle.algebra.specs.Polynomials.SamePhi (2 ^ w) n (integers_of v) (power integers 0)
   of_v i = (reduced_laws (mod_laws (2 ^ w)) n).tr (mod_phi (2 ^ w) n product) i
@@ -224,8 +215,8 @@ module _ (n w : ℕ) (h hq v : List ℕ) (d : List Digit) (two : 2 ≤ n) (wide 
       (λ t. P.tr (P.sy (mod_phi (2 ^ w) n product)) (centred_one (2 ^ w) n (omega (arith, big)) two (integers_of v) big (coefficients d) digits t))
       (λ i. one_centred (2 ^ w) n (omega (arith, big)) two (integers_of v) big (coefficients d) digits (of_v i))
 
-module _ (n w : ℕ) (h y v : List ℕ) (f g : List Digit) (two : 2 ≤ n) (narrow : w ≤ 16) (balanced : Balanced (2 ^ w) n (integers_of h)) (lh : length h ≡ n) (ly : length y ≡ n) (lv : length v ≡ n)
-    (hy : SameMod 65536 (length h) (integers_of y) (times (length h) (integers_of h) (coefficients f)))
+module _ (n w : ℕ) (h y v : List ℕ) (f g : List Digit) (two : 2 ≤ n) (narrow : w ≤ 16) (balanced : Balanced (2 ^ w) n (integers_of h)) (ly : length y ≡ n) (lv : length v ≡ n)
+    (hy : SameMod 65536 n (integers_of y) (times n (integers_of h) (coefficients f)))
     (hv : SameMod 65536 (length y) (integers_of v) (λ k. pos 43691 *ℤ divided integers (integers_of y) k)) where
   -- the only g that can solve the key equation
   abbrev only_g : Poly
@@ -234,7 +225,7 @@ module _ (n w : ℕ) (h y v : List ℕ) (f g : List Digit) (two : 2 ≤ n) (narr
   same_g : Agree integers n (λ k. centre (2 ^ w) (integers_of v k)) only_g
   same_g =
       candidate_words n w narrow (integers_of h) (coefficients f) (coefficients f) (integers_of y) (integers_of v) ((cyclic_laws (mod_laws 65536) n).rfl (coefficients f))
-      (subst (λ k. SameMod 65536 k (integers_of y) (times k (integers_of h) (coefficients f))) lh hy)
+      hy
       (subst (λ k. SameMod 65536 k (integers_of v) (λ i. pos 43691 *ℤ divided integers (integers_of y) i)) ly hv)
 
   -- it is not in T

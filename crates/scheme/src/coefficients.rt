@@ -38,12 +38,12 @@ fn centre_digit(width: u32, word: u16) -> Digit
     let modulus = 1u32 << width;
     let low = u32::from(word) & (modulus - 1);
     // From half the modulus on, low - modulus is meant, and that is low + 2 * modulus modulo 3.
-    let code = if low < modulus / 2 {
-        low % 3
+    let number = if low < modulus / 2 {
+        low
     } else {
-        (low + 2 * modulus) % 3
+        low + 2 * modulus
     };
-    Digit::from_number(code as u16)
+    Digit::from_number((number % 3) as u16)
 }
 
 // Each word centred modulo 2^width, and of that the remainder modulo 3.

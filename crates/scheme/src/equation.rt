@@ -1,5 +1,5 @@
 // The key equation 3 (x - 1) g = h f: the only g that can solve it.
-ghost use Rattle.std.specs.Prelude.{◌≡◌, ℕ, length, pos, ◌*ℤ◌};
+ghost use Rattle.std.specs.Prelude.{length, pos, ◌*ℤ◌};
 ghost use Rattle.algebra.specs.Polynomials.{SameMod};
 ghost use Rattle.algebra.specs.Ring.{divided, integers};
 ghost use Rattle.arithmetic.specs.Products.{integers_of};

@@ -1,5 +1,5 @@
 // The test whether a card is a key.
-ghost use Rattle.std.specs.Prelude.{◌≡◌, ℕ, ◌^◌, true, length};
+ghost use Rattle.std.specs.Prelude.{◌≡◌, ◌^◌, true, length};
 ghost use Rattle.algebra.specs.Decided.{Tells};
 ghost use Rattle.algebra.specs.Polynomials.{Balanced, InverseMod, times};
 ghost use Rattle.algebra.specs.Scheme.{candidate};
@@ -40,7 +40,7 @@ fn is_inverse_modulo_3<U: RowUnit>(
 {
     let mut room = [Digit::ZERO; LONGEST];
     let f_fp = &mut room[..set.n];
-    product_modulo_3(unit, f, fp, f_fp);
+    product_modulo_3(unit, set, f, fp, f_fp);
     is_one(f_fp)
 }
 
@@ -56,7 +56,7 @@ fn has_key_equation<U: RowUnit>(unit: &mut U, set: ParameterSet, h: &[u16], f: &
     let mut g_room = [Digit::ZERO; LONGEST];
     let hf = &mut product_room.words[..n];
     let g = &mut g_room[..n];
-    times_digits(unit, h, f, hf);
+    times_digits(unit, set, h, f, hf);
     divide_by_3_phi1(hf);
     read_signs(set.width, hf, g).is_some() && correlates(g)
 }
@@ -72,7 +72,7 @@ fn is_inverse_modulo_q<U: RowUnit>(unit: &mut U, set: ParameterSet, h: &[u16], h
     let mut digits_room = [Digit::ZERO; LONGEST];
     let h_hq = &mut product_room.words[..n];
     let digits = &mut digits_room[..n];
-    product(unit, h, hq, h_hq);
+    product(unit, set, h, hq, h_hq);
     read_reduced(set.width, h_hq, digits).is_some() && is_one(digits)
 }
 

@@ -1,5 +1,5 @@
 // Lift: of a polynomial m it is (x - 1) s, where s has digits -1, 0 and 1, and (x - 1) s is m modulo 3 and 1 + x + .. + x^(n - 1).
-ghost use Rattle.std.specs.Prelude.{◌≡◌, ℕ, ◌%◌, ◌<◌, ◌≤◌, length, pos, ◌≢◌};
+ghost use Rattle.std.specs.Prelude.{◌≡◌, length, pos};
 ghost use Rattle.algebra.specs.Polynomials.{SameMod};
 ghost use Rattle.algebra.specs.Ring.{Agree, Differ, integers, sum};
 ghost use Rattle.algebra.specs.Scheme.{lifting, shift};
@@ -10,6 +10,7 @@ ghost use Rattle.scheme.specs.Sealing.{lift_of};
 use crate::coefficients::signed_words;
 use crate::polynomial::LONGEST;
 use crate::product::phi1_times;
+use crate::set::ParameterSet;
 use arithmetic::{Digit, Ring};
 
 // The sum of digits, modulo 3.
@@ -24,12 +25,12 @@ fn sum_digits(digits: &[Digit]) -> Digit
 }
 
 // What is added to every digit of m, for their sum to become 0 modulo 3: minus the sum divided by n, and n is 1 or -1.
-fn balancing_shift(m: &[Digit]) -> Digit
-    requires { length m.now % 3 ≢ 0 }
+fn balancing_shift(set: ParameterSet, m: &[Digit]) -> Digit
+    requires { length m.now ≡ set.n }
     ensures { Differ integers (pos 3) (number result) (shift (length m.now) (coefficients m.now)) }
 {
     let total = sum_digits(m);
-    if m.len() % 3 == 1 {
+    if set.n % 3 == 1 {
         total.negation()
     } else {
         total
@@ -37,12 +38,11 @@ fn balancing_shift(m: &[Digit]) -> Digit
 }
 
 // Writes the s that lifts m.
-fn lifting_digits(m: &[Digit], s: &mut [Digit])
-    requires room { length s.old ≡ length m.now }
-    requires coprime { length m.now % 3 ≢ 0 }
+fn lifting_digits(set: ParameterSet, m: &[Digit], s: &mut [Digit])
+    requires { (length m.now ≡ set.n) × (length s.old ≡ set.n) }
     ensures { Agree integers (length m.now) (coefficients s.new) (lifting (length m.now) (coefficients m.now)) }
 {
-    let shift = balancing_shift(m);
+    let shift = balancing_shift(set, m);
     let mut last = Digit::ZERO;
     for (i, digit) in m.iter().enumerate() {
         last = last.sum(digit.sum(shift).negation());
@@ -51,18 +51,16 @@ fn lifting_digits(m: &[Digit], s: &mut [Digit])
 }
 
 // Writes Lift(m), modulo 65536.
-pub(crate) fn lift(m: &[Digit], out: &mut [u16])
-    requires sizes { (2 ≤ length m.now) × (length m.now ≤ 1408) }
-    requires coprime { length m.now % 3 ≢ 0 }
-    requires room { length out.old ≡ length m.now }
-    ensures { SameMod 65536 (length m.now) (integers_of out.new) (lift_of (length m.now) (coefficients m.now)) }
+pub(crate) fn lift(set: ParameterSet, m: &[Digit], out: &mut [u16])
+    requires { (length m.now ≡ set.n) × (length out.old ≡ set.n) }
+    ensures { SameMod 65536 set.n (integers_of out.new) (lift_of set.n (coefficients m.now)) }
 {
-    let n = m.len();
+    let n = set.n;
     let mut s_room = [Digit::ZERO; LONGEST];
     let mut words_room = [0u16; LONGEST];
     let s = &mut s_room[..n];
     let words = &mut words_room[..n];
-    lifting_digits(m, s);
+    lifting_digits(set, m, s);
     signed_words(s, words);
-    phi1_times(words, out);
+    phi1_times(set, words, out);
 }

@@ -1,5 +1,5 @@
 // Make: a card from coins.
-ghost use Rattle.std.specs.Prelude.{◌≡◌, ℕ, ◌*◌, ◌^◌, ◌≤◌, ◌++◌, length, pos, MatchResult};
+ghost use Rattle.std.specs.Prelude.{◌≡◌, ◌*◌, ◌^◌, ◌≤◌, ◌++◌, length, pos, MatchResult};
 ghost use Rattle.algebra.specs.Polynomials.{InverseMod, NoInverseMod, SameMod, scale};
 ghost use Rattle.algebra.specs.Radix.{Under};
 ghost use Rattle.algebra.specs.Ternary.{Ternary};
@@ -44,9 +44,8 @@ fn invert_modulo_3(f: &[Digit], fp: &mut [Digit]) -> Result<(), Refusal>
     let mut s = [Digit::ZERO; LONGEST];
     let mut t = [Digit::ZERO; LONGEST];
     let mut v = [Digit::ZERO; LONGEST];
-    inverse_mod_phi(f, fp, &mut r[..n], &mut s[..n], &mut t[..n], &mut v[..n]).ok_or(
-        Refusal::NotInvertible,
-    )?;
+    let degree = inverse_mod_phi(f, fp, &mut r[..n], &mut s[..n], &mut t[..n], &mut v[..n]);
+    degree.ok_or(Refusal::NotInvertible)?;
     Ok(())
 }
 
@@ -93,8 +92,8 @@ fn make_public<U: RowUnit>(
     let g_fq = &mut product_room.words[..n];
     let turned = &mut turned_room[..n];
     invert_modulo_q(unit, set, f, fq)?;
-    digits_times(unit, g, fq, g_fq);
-    phi1_times(g_fq, turned);
+    digits_times(unit, set, g, fq, g_fq);
+    phi1_times(set, g_fq, turned);
     triple(set.width, turned, h);
     Ok(())
 }

@@ -1,5 +1,5 @@
 // Open: the pair of a sealed record.
-ghost use Rattle.std.specs.Prelude.{◌≡◌, ℕ, ◌-◌, ◌*◌, ◌^◌, true, length, MatchResult};
+ghost use Rattle.std.specs.Prelude.{◌≡◌, ◌*◌, ◌^◌, true, length, MatchResult};
 ghost use Rattle.algebra.specs.Ring.{Agree, integers};
 ghost use Rattle.algebra.specs.Scheme.{lifting, opened_a, opened_m, opened_r};
 ghost use Rattle.algebra.specs.Ternary.{Ternary};
@@ -47,9 +47,9 @@ fn find_m<U: RowUnit>(
     let mut a_room = [Digit::ZERO; LONGEST];
     let cf = &mut cf_room.words[..n];
     let a = &mut a_room[..n];
-    times_digits(unit, c, f, cf);
+    times_digits(unit, set, c, f, cf);
     centre_digits(set.width, cf, a);
-    product_modulo_3(unit, a, fp, m);
+    product_modulo_3(unit, set, a, fp, m);
 }
 
 // r' of a sealed polynomial c and its m': b is c - Lift(m'), and r' is b hq, reduced modulo 2^width and 1 + x + .. + x^(n - 1) and
@@ -74,9 +74,9 @@ fn find_r<U: RowUnit>(
     let mut product_room = Room::new();
     let lifted = &mut lifted_room[..n];
     let b_hq = &mut product_room.words[..n];
-    lift(m, lifted);
+    lift(set, m, lifted);
     subtract_words(c, lifted);
-    product(unit, c, hq, b_hq);
+    product(unit, set, c, hq, b_hq);
     read_reduced(set.width, b_hq, r).ok_or(Refusal::NoPair)
 }
 

@@ -1,5 +1,5 @@
 // Seal: c = r h + Lift(m) modulo 2^w.
-ghost use Rattle.std.specs.Prelude.{◌≡◌, ℕ, ◌-◌, ◌*◌, ◌/◌, length};
+ghost use Rattle.std.specs.Prelude.{◌≡◌, length};
 ghost use Rattle.algebra.specs.Polynomials.{SameMod};
 ghost use Rattle.arithmetic.specs.Digits.{coefficients};
 ghost use Rattle.arithmetic.specs.Products.{integers_of};
@@ -37,8 +37,8 @@ fn encrypt<U: RowUnit>(
 {
     let mut lifted_room = [0u16; LONGEST];
     let lifted = &mut lifted_room[..set.n];
-    digits_times(unit, r, h, c);
-    lift(m, lifted);
+    digits_times(unit, set, r, h, c);
+    lift(set, m, lifted);
     add_words(c, lifted);
 }
 

@@ -7,7 +7,7 @@ pub returns-then-is_some-clause-answer : goal.returns-then-is_some-clause-answer
 returns-then-is_some-clause-answer g c =
     let set = c.args.set in
     let long = c.times_digits.auto.out ∙ in_zeros _ c.new-product_room.ensures.zeros set.length.1 in
-    g_told set.n set.width c.args.h.now c.times_digits.new.out c.divide_by_3_phi1.new.d c.args.f.now c.read_signs.new.out set.length.0 set.narrow c.requires.balanced c.requires.polynomials.0
+    g_told set.n set.width c.args.h.now c.times_digits.new.out c.divide_by_3_phi1.new.d c.args.f.now c.read_signs.new.out set.length.0 set.narrow c.requires.balanced
     long (c.divide_by_3_phi1.auto.d ∙ long) c.times_digits.ensures.product c.divide_by_3_phi1.ensures
     c.read_signs.result c.correlates.result (sym c.is_some.ensures ∙ c.if-is_some.true) c.read_signs.ensures (c.read_signs.auto.out ∙ in_room _ set.length.1) c.correlates.ensures
 
@@ -15,6 +15,6 @@ pub returns-else-is_some-clause-answer : goal.returns-else-is_some-clause-answer
 returns-else-is_some-clause-answer g c =
     let set = c.args.set in
     let long = c.times_digits.auto.out ∙ in_zeros _ c.new-product_room.ensures.zeros set.length.1 in
-    g_refused set.n set.width c.args.h.now c.times_digits.new.out c.divide_by_3_phi1.new.d c.args.f.now c.read_signs.new.out set.length.0 set.narrow c.requires.balanced c.requires.polynomials.0
+    g_refused set.n set.width c.args.h.now c.times_digits.new.out c.divide_by_3_phi1.new.d c.args.f.now c.read_signs.new.out set.length.0 set.narrow c.requires.balanced
     long (c.divide_by_3_phi1.auto.d ∙ long) c.times_digits.ensures.product c.divide_by_3_phi1.ensures
     c.read_signs.result c.is_some.result c.is_some.ensures c.if-is_some.false c.read_signs.ensures

@@ -7,11 +7,11 @@ use Rattle.scheme.proofs.key_test.is_inverse_modulo_q.Goals as goal
 pub returns-then-is_some-clause-answer : goal.returns-then-is_some-clause-answer
 returns-then-is_some-clause-answer g c =
     let set = c.args.set in
-    q_told set.n set.width c.args.h.now c.args.hq.now c.product.new.out c.read_reduced.new.out set.length.0 (wide set) set.narrow c.requires.words.0 (c.product.auto.out ∙ in_zeros _ c.new-product_room.ensures.zeros set.length.1)
+    q_told set.n set.width c.args.h.now c.args.hq.now c.product.new.out c.read_reduced.new.out set.length.0 (wide set) set.narrow (c.product.auto.out ∙ in_zeros _ c.new-product_room.ensures.zeros set.length.1)
     c.product.ensures.product c.read_reduced.result c.is_one.result (sym c.is_some.ensures ∙ c.if-is_some.true) c.read_reduced.ensures (c.read_reduced.auto.out ∙ in_room _ set.length.1) c.is_one.ensures
 
 pub returns-else-is_some-clause-answer : goal.returns-else-is_some-clause-answer
 returns-else-is_some-clause-answer g c =
     let set = c.args.set in
-    q_refused set.n set.width c.args.h.now c.args.hq.now c.product.new.out c.read_reduced.new.out set.length.0 (wide set) set.narrow c.requires.words.0 (c.product.auto.out ∙ in_zeros _ c.new-product_room.ensures.zeros set.length.1)
+    q_refused set.n set.width c.args.h.now c.args.hq.now c.product.new.out c.read_reduced.new.out set.length.0 (wide set) set.narrow (c.product.auto.out ∙ in_zeros _ c.new-product_room.ensures.zeros set.length.1)
     c.product.ensures.product c.read_reduced.result c.is_some.result c.is_some.ensures c.if-is_some.false c.read_reduced.ensures

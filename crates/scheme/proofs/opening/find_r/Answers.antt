@@ -10,5 +10,5 @@ returns-clause-factor g c =
     let set = c.args.set in
     ok_or_cases _ _ NoPair c.read_reduced.result c.ok_or.ensures.value
     (r_found set.n set.width c.args.c.now c.args.hq.now c.lift.new.out c.subtract_words.new.u c.product.new.out c.args.m.now c.read_reduced.new.out set.length.0 set.narrow
-    c.requires.digits.0 c.requires.words.0 (c.subtract_words.auto.u ∙ c.requires.words.0) (c.product.auto.out ∙ in_zeros _ c.new-product_room.ensures.zeros set.length.1)
+    c.requires.words.0 (c.product.auto.out ∙ in_zeros _ c.new-product_room.ensures.zeros set.length.1)
     c.lift.ensures c.subtract_words.ensures c.product.ensures.product c.read_reduced.result c.read_reduced.ensures)

@@ -1,15 +1,16 @@
 -- The answers of seal, open, the key test and make, and what is read of a card.
-use Rattle.std.proofs.Common.{◌≡◌, ℕ, zero, suc, ◌+◌, ◌*◌, Bool, true, false, not, ◌&&◌, leb, ◌⊎◌, List, [], ◌∷◌, length, take, drop, Ok, Err, Result, refl, ap, ◌∙◌, subst, arith}
+use Rattle.std.proofs.Common.{◌≡◌, ℕ, zero, suc, ◌+◌, ◌*◌, true, false, not, ◌&&◌, leb, ◌⊎◌, List, [], ◌∷◌, length, take, drop, Ok, Err, Result, sym, refl, ap, ◌∙◌, subst, arith}
 use Rattle.std.proofs.lemmas.List.{take-take, drop-take}
 use Rattle.std.proofs.lemmas.Bool.{and_parts}
 use Rattle.algebra.specs.Decided.{in_T}
 use Rattle.algebra.specs.Polynomials.{Poly}
-use Rattle.algebra.proofs.Deciding.{told_same, ternary_tells}
+use Rattle.algebra.proofs.Deciding.{told_by, told_same, ternary_tells}
 use Rattle.scheme.specs.declared.refusal.Refusal.{Refusal}
 use Rattle.scheme.specs.declared.refusal.Refusal.TheVariants.{InputLength, OutputLength, TernaryByte, NoPair}
 use Rattle.scheme.specs.CardPolynomials.{polynomials, stretch, ternary_stretch}
 use Rattle.scheme.specs.KeyTest.{tests, polynomial_tests}
-use Rattle.scheme.specs.Opening.{Opened, opens, found_r}
+use Rattle.scheme.specs.Opening.{Opened, opened_record, opens, found_r}
+use Rattle.scheme.specs.Refusals.{left}
 use Rattle.scheme.specs.Sealing.{seals}
 use Rattle.scheme.specs.Sets.{known, length_of, width_of, record_bytes, card_bytes, pair_bytes, coin_bytes}
 use Rattle.scheme.specs.TernaryParts.{holds_digits}
@@ -67,9 +68,22 @@ module _ (set : ℕ) (card sealed out : List ℕ) (k : known set ≡ true) where
         pub open_pair : in_T (length_of set) found ≡ true → Tabled (Ok tt) (3 * length_of set + 0) (opens set card sealed out)
         open_pair h = goes_on _ _ _ (ap not k) (goes_on _ _ _ (equal_both _ _ _ _ lc ls) (goes_on _ _ _ (equal _ _ lo) (goes_on _ _ _ (ap not hd) (makes_rows (3 * length_of set) _ (goes_on _ _ _ (ap not h) ends)))))
 
--- what tells whether r' is in T is the test of the table
-pub opened_test : (n w : ℕ) (f fp hq c : Poly) (a : Bool) (before after : List ℕ) → Opened n w f fp hq c a before after → a ≡ in_T n (found_r n w f fp hq c)
-opened_test n w f fp hq c a before after o = told_same a (in_T n (found_r n w f fp hq c)) o.tells (ternary_tells n (found_r n w f fp hq c))
+-- what opening leaves is the table's answer, and what that leaves
+pub opened_answers : (set : ℕ) (card sealed out : List ℕ) → known set ≡ true → length card ≡ card_bytes (length_of set) (width_of set) → length sealed ≡ record_bytes (length_of set) (width_of set) → length out ≡ pair_bytes (length_of set) →
+    holds_digits (ternary_stretch (length_of set) card) ≡ true → (answer : Result (Unit {0}) Refusal) (after : List ℕ) →
+    (let p = polynomials (length_of set) (width_of set) card in Opened (length_of set) (width_of set) p.f p.fp p.hq (balanced_polynomial (length_of set) (width_of set) sealed) answer out after) →
+    Tabled answer (3 * length_of set + 0) (opens set card sealed out) × (after ≡ left answer (opened_record (length_of set) (width_of set) card sealed) out)
+opened_answers set card sealed out k lc ls lo hd (Ok u) after o =
+    let p = polynomials (length_of set) (width_of set) card in
+    let r = found_r (length_of set) (width_of set) p.f p.fp p.hq (balanced_polynomial (length_of set) (width_of set) sealed) in
+    let test = told_same true (in_T (length_of set) r) (told_by true (λ _. o.0) (λ _. refl)) (ternary_tells (length_of set) r) in
+    (open_pair set card sealed out k lc ls lo hd (sym test), o.1)
+opened_answers set card sealed out k lc ls lo hd (Err e) after o =
+    let p = polynomials (length_of set) (width_of set) card in
+    let r = found_r (length_of set) (width_of set) p.f p.fp p.hq (balanced_polynomial (length_of set) (width_of set) sealed) in
+    let test = told_same false (in_T (length_of set) r) (told_by false (λ t. absurd (let z : ◌≡◌ {A = ℕ} 0 1 = cc in omega arith)) (λ t. absurd (o.0 t))) (ternary_tells (length_of set) r) in
+    let table = open_none set card sealed out k lc ls lo hd (sym test) in
+    (record { answer_is = ap Err o.1 ∙ table.answer_is; rows_are = table.rows_are }, o.2)
 
 -- ---- the key test
 module _ (set : ℕ) (card : List ℕ) (k : known set ≡ true) where

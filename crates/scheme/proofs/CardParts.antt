@@ -1,6 +1,7 @@
 -- The parts of a card, and the polynomials that they hold.
-use Rattle.std.proofs.Common.{◌≡◌, ℕ, ◌+◌, ◌-◌, ◌*◌, Bool, true, List, take, sym, ap, ◌∙◌, subst, arith}
+use Rattle.std.proofs.Common.{◌≡◌, ℕ, ◌+◌, ◌-◌, ◌*◌, true, List, take, Result, sym, ap, ◌∙◌, subst, arith}
 use Rattle.scheme.specs.declared.card.Parts.{Parts}
+use Rattle.scheme.specs.declared.refusal.Refusal.{Refusal}
 use Rattle.scheme.specs.declared.set.ParameterSet.{ParameterSet}
 use Rattle.scheme.specs.Cards.{Split}
 use Rattle.scheme.specs.CardPolynomials.{part_polynomials, polynomials, stretch, ternary_stretch}
@@ -46,7 +47,7 @@ module _ (s : ParameterSet) (n w : ℕ) (en : s.n ≡ n) (ew : s.width ≡ w) (c
         ∙ ap (λ bs. part_polynomials n w (stretch 0 (ternary_bytes n) card) (stretch (ternary_bytes n) (ternary_bytes n) card) bs p.hq.bytes.now) h_is
         ∙ ap (λ bs. part_polynomials n w (stretch 0 (ternary_bytes n) card) (stretch (ternary_bytes n) (ternary_bytes n) card) (stretch (2 * ternary_bytes n) (record_bytes n w) card) bs) hq_is
 
-    pub opened_at : (sealed : List ℕ) (a : Bool) (before after : List ℕ) →
+    pub opened_at : (sealed : List ℕ) (a : Result (Unit {0}) Refusal) (before after : List ℕ) →
         Opened s.n s.width (ternary_polynomial s.n p.f.bytes.now) (ternary_polynomial s.n p.fp.bytes.now) (padded_polynomial s.n s.width p.hq.bytes.now) (balanced_polynomial s.n s.width sealed) a before after →
         Opened n w (polynomials n w card).f (polynomials n w card).fp (polynomials n w card).hq (balanced_polynomial n w sealed) a before after
     opened_at sealed a before after o =

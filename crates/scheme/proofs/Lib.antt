@@ -4,12 +4,14 @@ mod CoinDigits
 mod DrawnSigns
 mod Exacts
 mod Makings
+mod OkOr
 mod PairRecords
 mod TernaryDigits
 mod StepAnswers
 mod Testing
 mod Records
 mod ReadBack
+mod Rooms
 mod RowCounts
 mod SetFacts
 mod Verdicts

@@ -1,9 +1,9 @@
 -- Polynomials in records: what is written of lists of digits and words, and what is read.
-use Rattle.std.proofs.Common.{◌≡◌, ℕ, ◌-◌, ◌%◌, ◌^◌, ◌<◌, ◌≤◌, Bool, true, false, List, [], ◌∷◌, ◌++◌, map, length, get_or, take, set, pos, sym, refl, ap, ◌∙◌, subst, mod-eq_of_lt, arith, length-take, pow_pos}
+use Rattle.std.proofs.Common.{◌≡◌, ℕ, ◌-◌, ◌%◌, ◌^◌, ◌<◌, ◌≤◌, List, [], ◌∷◌, ◌++◌, map, length, get_or, take, set, pos, sym, ap, ◌∙◌, subst, mod-eq_of_lt, arith, length-take, pow_pos}
 use borrow.Rule.Slice.PartMut.{post_of}
 use Rattle.std.specs.List.{range_with_len}
 use Rattle.std.proofs.lemmas.List.FromFn.{get_or-map-range_with_len, length-map-range_with_len}
-use Rattle.std.proofs.lemmas.List.{ext_get_or, get_or-take, get_or_push}
+use Rattle.std.proofs.lemmas.List.{ext_get_or, get_or-take, get_or_push, length-map}
 use Rattle.algebra.specs.Decided.{Tells}
 use Rattle.algebra.specs.Radix.{numeral, digits}
 use Rattle.algebra.specs.Ring.{Agree, integers}
@@ -13,7 +13,6 @@ use Rattle.algebra.specs.Ternary.{Ternary}
 use Rattle.algebra.proofs.CallSteps.{narrowed, lifting_same, opened_r_same}
 use Rattle.algebra.proofs.Classes.{as_word_below, word_same}
 use Rattle.algebra.proofs.Cyclic.{cyclic_laws}
-use Rattle.algebra.proofs.Deciding.{told_as}
 use Rattle.algebra.proofs.Integers.{integer_laws}
 use Rattle.algebra.proofs.LastCoefficient.{write_last}
 use Rattle.algebra.proofs.Polynomials.{ternary_same}
@@ -23,7 +22,7 @@ use Rattle.arithmetic.specs.Products.{integers_of}
 use Rattle.arithmetic.specs.declared.digit.Digit.{Digit}
 use Rattle.arithmetic.proofs.Digits.{same_digit, sign_number, number_small}
 use Rattle.scheme.specs.Coins.{drawn, first_half, second_half}
-use Rattle.scheme.specs.Opening.{Opened, found_m, found_r}
+use Rattle.scheme.specs.Opening.{found_m, found_r}
 use Rattle.scheme.specs.Sealing.{encrypted, sealed_record}
 use Rattle.scheme.specs.TernaryParts.{ternary_part, ternary_digits}
 use Rattle.scheme.specs.TernaryPolynomials.{ended_digits, ternary_polynomial, ternary_record, pair_of}
@@ -71,24 +70,23 @@ module _ (bytes : List ℕ) (xs front : List Digit) (z : Digit) (some : 1 ≤ le
       write_last xs front (n - 1) z (omega arith) (ap length front_is ∙ length_ternary (n - 1) bytes) ∙ ap (λ ds. ds ++ z ∷ []) front_is ∙ ap (λ d. ternary_digits (n - 1) bytes ++ d ∷ []) (same_digit z (digit 0) zero_code)
 
 -- ---- seal
-pub sealed_bytes : (n w : ℕ) (coins h key c out : List ℕ) (r m : List Digit) (entry : ℕ) → w ≤ 16 → length r ≡ n → length c ≡ n → entry ≡ n →
+pub sealed_bytes : (n w : ℕ) (coins h key c out : List ℕ) (r m : List Digit) {entry : ℕ} → w ≤ 16 → length c ≡ n → entry ≡ n →
     r ≡ drawn (first_half n coins) → m ≡ drawn (second_half n coins) → key ≡ balanced w (part_words w (entry - 1) h) →
-    SameMod 65536 (length r) (integers_of c) (encrypted (length r) (integers_of key) (coefficients r) (coefficients m)) → out ≡ word_part w (take (length c - 1) c) →
+    SameMod 65536 n (integers_of c) (encrypted n (integers_of key) (coefficients r) (coefficients m)) → out ≡ word_part w (take (length c - 1) c) →
     out ≡ sealed_record n w (balanced_polynomial n w h) coins
-sealed_bytes n w coins h key c out r m entry narrow lr lc le er em ek hc eo =
+sealed_bytes n w coins h key c out r m narrow lc le er em ek hc eo =
     eo
-    ∙ word_record_is n w c (encrypted n (integers_of key) (coefficients r) (coefficients m)) lc (narrowed w n narrow (subst (λ k. SameMod 65536 k (integers_of c) (encrypted k (integers_of key) (coefficients r) (coefficients m))) lr hc))
+    ∙ word_record_is n w c (encrypted n (integers_of key) (coefficients r) (coefficients m)) lc (narrowed w n narrow hc)
     ∙ ap (λ xs. word_record n w (encrypted n (integers_of xs) (coefficients r) (coefficients m))) (ek ∙ ap (λ k. balanced w (part_words w (k - 1) h)) le)
     ∙ ap (λ ds. word_record n w (encrypted n (balanced_polynomial n w h) (coefficients ds) (coefficients m))) er
     ∙ ap (λ ds. word_record n w (encrypted n (balanced_polynomial n w h) (coefficients (drawn (first_half n coins))) (coefficients ds))) em
 
 -- ---- open
 -- what is opened, by the lists that hold the polynomials; ik, il, ic and iz are the lengths of the lists that were read into
-module _ (n w : ℕ) (f fp hq sealed : List ℕ) (k l m : List Digit) (c z : List ℕ) (a : Bool) (ik il ic iz : ℕ) (some : 0 < n) (lk : ik ≡ n) (ll : il ≡ n) (lc : ic ≡ n) (lz : iz ≡ n) (long : length c ≡ n)
+module _ (n w : ℕ) (f fp hq sealed : List ℕ) (k l m : List Digit) (c z : List ℕ) {ik il ic iz : ℕ} (some : 0 < n) (lk : ik ≡ n) (ll : il ≡ n) (lc : ic ≡ n) (lz : iz ≡ n)
     (ek : k ≡ ended_digits ik f) (el : l ≡ ended_digits il fp) (ec : c ≡ balanced w (part_words w (ic - 1) sealed)) (ez : z ≡ padded (part_words w (iz - 1) hq))
-    (hm : Agree integers (length c) (coefficients m) (opened_m (length c) (coefficients l) (opened_a (length c) (2 ^ w) (coefficients k) (integers_of c))))
-    (tells : Tells a (Ternary (length c) (opened_r (length c) (2 ^ w) (integers_of z) (integers_of c) (lifting (length c) (coefficients m))))) where
-  abbrev F : Poly
+    (hm : Agree integers n (coefficients m) (opened_m n (coefficients l) (opened_a n (2 ^ w) (coefficients k) (integers_of c)))) where
+  abbrev pub F : Poly
   F = ternary_polynomial n f
 
   abbrev Fp : Poly
@@ -116,8 +114,7 @@ module _ (n w : ℕ) (f fp hq sealed : List ℕ) (k l m : List Digit) (c z : Lis
   m_found =
       subst (λ u. Agree integers n (coefficients m) (opened_m n u (opened_a n (2 ^ w) F C))) fp_is
       (subst (λ u. Agree integers n (coefficients m) (opened_m n (coefficients l) (opened_a n (2 ^ w) u C))) f_is
-      (subst (λ u. Agree integers n (coefficients m) (opened_m n (coefficients l) (opened_a n (2 ^ w) (coefficients k) u))) c_is
-      (subst (λ i. Agree integers i (coefficients m) (opened_m i (coefficients l) (opened_a i (2 ^ w) (coefficients k) (integers_of c)))) long hm)))
+      (subst (λ u. Agree integers n (coefficients m) (opened_m n (coefficients l) (opened_a n (2 ^ w) (coefficients k) u))) c_is hm))
 
   same_r : Agree integers n (opened_r n (2 ^ w) (integers_of z) (integers_of c) (lifting n (coefficients m))) (found_r n w F Fp Hq C)
   same_r =
@@ -125,23 +122,13 @@ module _ (n w : ℕ) (f fp hq sealed : List ℕ) (k l m : List Digit) (c z : Lis
       (subst (λ u. Agree integers n (opened_r n (2 ^ w) Hq u (lifting n (coefficients m))) (found_r n w F Fp Hq C)) (sym c_is)
       (opened_r_same n (2 ^ w) Hq C some (lifting_same n m_found)))
 
-  r_told : Tells a (Ternary n (found_r n w F Fp Hq C))
-  r_told =
-      told_as (subst (λ i. Tells a (Ternary i (opened_r i (2 ^ w) (integers_of z) (integers_of c) (lifting i (coefficients m))))) long tells)
-      (ternary_same n some ((cyclic_laws integer_laws n).sy same_r)) (ternary_same n some same_r)
-
   -- there is no pair
-  pub none_opened : a ≡ false → (before : List ℕ) → Opened n w F Fp Hq C false before before
-  none_opened e before = record { tells = subst (λ b. Tells b (Ternary n (found_r n w F Fp Hq C))) e r_told; pair = λ t. absurd (let x : ◌≡◌ {A = ℕ} 0 1 = cc in omega arith); none = λ _. refl }
+  pub none_opened : (Ternary n (opened_r n (2 ^ w) (integers_of z) (integers_of c) (lifting n (coefficients m))) → ⊥) → Ternary n (found_r n w F Fp Hq C) → ⊥
+  none_opened none t = none (ternary_same n some same_r t)
 
   -- the pair is written
-  pub pair_opened : a ≡ true → (r : List Digit) → Agree integers (length c) (coefficients r) (opened_r (length c) (2 ^ w) (integers_of z) (integers_of c) (lifting (length c) (coefficients m))) → (before after : List ℕ) →
-      ((u v : Poly) → Agree integers n (coefficients r) u → Agree integers n (coefficients m) v → after ≡ pair_of n u v) → Opened n w F Fp Hq C true before after
-  pair_opened e r hr before after written = record {
-    tells = subst (λ b. Tells b (Ternary n (found_r n w F Fp Hq C))) e r_told;
-    pair = λ _.
-        written _ _
-        ((cyclic_laws integer_laws n).tr (subst (λ i. Agree integers i (coefficients r) (opened_r i (2 ^ w) (integers_of z) (integers_of c) (lifting i (coefficients m)))) long hr) same_r)
-        m_found;
-    none = λ t. absurd (let x : ◌≡◌ {A = ℕ} 0 1 = cc in omega arith);
-  }
+  pub pair_opened : (r : List Digit) → Ternary n (opened_r n (2 ^ w) (integers_of z) (integers_of c) (lifting n (coefficients m))) →
+      Agree integers n (coefficients r) (opened_r n (2 ^ w) (integers_of z) (integers_of c) (lifting n (coefficients m))) → (after : List ℕ) →
+      ((u v : Poly) → Agree integers n (coefficients r) u → Agree integers n (coefficients m) v → after ≡ pair_of n u v) →
+      Ternary n (found_r n w F Fp Hq C) × (after ≡ pair_of n (found_r n w F Fp Hq C) (found_m n w F Fp C))
+  pair_opened r t hr after written = (ternary_same n some ((cyclic_laws integer_laws n).sy same_r) t, written _ _ ((cyclic_laws integer_laws n).tr hr same_r) m_found)

@@ -1,5 +1,5 @@
 -- Counts of rows after products.
-use Rattle.std.proofs.Common.{◌≡◌, ℕ, ◌+◌, ◌*◌, ◌^◌, ◌<◌, ◌≤◌, arith}
+use Rattle.std.proofs.Common.{◌≡◌, ℕ, ◌+◌, ◌*◌, ◌^◌, ◌<◌, arith}
 use Rattle.arithmetic.specs.Rows.{raised}
 
 pub no_rows : (rows : ℕ) → rows < 2 ^ 64 → rows ≡ raised 0 rows
@@ -13,10 +13,6 @@ two_rows n rows d e h i = omega arith
 
 pub three_rows : (n rows : ℕ) {a b c rows' rows'' rows''' : ℕ} → a ≡ n → b ≡ n → c ≡ n → rows' ≡ raised a rows → rows'' ≡ raised b rows' → rows''' ≡ raised c rows'' → rows''' ≡ raised (n + (n + (n + 0))) rows
 three_rows n rows d e f h i j = omega arith
-
--- a count never falls
-pub rows_rise : (rows k : ℕ) → rows < 2 ^ 64 → rows ≤ raised k rows
-rows_rise rows k h = omega arith
 
 -- a count of three products at once
 pub thrice : (n rows : ℕ) {a rows' : ℕ} → a ≡ n → rows' ≡ raised (3 * a) rows → rows' ≡ raised (3 * n + 0) rows

@@ -25,9 +25,6 @@ pub wide : (s : ParameterSet) → 2 ≤ s.width
 wide s = two_bits s.width (sets_suffice s.n s.width (facts s)).big
 
 -- a word part of a set holds n - 1 coefficients
-pub part_enough : (s : ParameterSet) (a b : ℕ) → a ≡ s.n → b ≡ s.word → s.width * (a - 1) ≤ 8 * b
-part_enough s a b ea eb = subst (λ k. s.width * (k - 1) ≤ 8 * b) (sym ea) (omega (arith, s.parts.1))
-
 pub part_room : (s : ParameterSet) (a b : ℕ) → a ≡ s.n → b ≡ s.word → b ≡ word_bytes s.width (a - 1)
 part_room s a b ea eb = eb ∙ s.parts.1 ∙ ap (λ k. word_bytes s.width (k - 1)) (sym ea)
 

@@ -5,6 +5,7 @@ pub mod Coins
 pub mod TernaryParts
 pub mod WordParts
 pub mod WordPolynomials
+pub mod Readings
 pub mod TernaryPolynomials
 pub mod Cards
 pub mod CardPolynomials

@@ -1,12 +1,11 @@
 -- Make: the card of coins, and why a call may refuse.
-use Rattle.std.specs.Prelude.{◌≡◌, ℕ, ◌^◌, Bool, true, false, not, List, [], ◌∷◌, ◌++◌, length, Ok, Err, Result, ◌==◌}
+use Rattle.std.specs.Prelude.{◌≡◌, ℕ, ◌^◌, Bool, false, not, List, [], ◌∷◌, ◌++◌, length, Ok, Err, Result, ◌==◌}
 use Rattle.algebra.specs.Decided.{Tells}
 use Rattle.algebra.specs.Polynomials.{Poly, SameMod, InverseMod}
 use Rattle.algebra.specs.Radix.{Under}
 use Rattle.algebra.specs.Scheme.{Makes, Unmakable, public_key}
 use Rattle.arithmetic.specs.Digits.{coefficients}
 use Rattle.arithmetic.specs.Products.{integers_of}
-use Rattle.arithmetic.specs.declared.digit.Digit.{Digit}
 use Rattle.scheme.specs.declared.refusal.Refusal.{Refusal}
 use Rattle.scheme.specs.declared.refusal.Refusal.TheVariants.{NoSuchSet, InputLength, OutputLength, NotInvertible}
 use Rattle.scheme.specs.Coins.{drawn, first_half, second_half}
@@ -65,9 +64,3 @@ pub record Published (n w : ℕ) (f g : Poly) (h : List ℕ) : Type 0 where
   pub fq_inverse : InverseMod (2 ^ w) n f fq
   pub is : SameMod (2 ^ w) n (integers_of h) (public_key n g fq)
   pub small : Under (2 ^ w) h
-
--- lists that hold what making works out from f and g, where a says that all inverses are there
-pub record WorkedOut (n w : ℕ) (f g : Poly) (a : Bool) (fp : List Digit) (h hq : List ℕ) : Type 0 where
-  pub made : a ≡ true → Makes n (2 ^ w) f g (coefficients fp) (integers_of h) (integers_of hq)
-  pub words : a ≡ true → Under (2 ^ w) h × Under (2 ^ w) hq
-  pub none : a ≡ false → Unmakable n (2 ^ w) f g

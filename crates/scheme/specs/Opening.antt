@@ -1,9 +1,10 @@
 -- Open: the pair that is found, and why a call may refuse.
-use Rattle.std.specs.Prelude.{◌≡◌, ℕ, ◌*◌, ◌^◌, Bool, true, false, not, ◌&&◌, List, [], ◌∷◌, length, ◌==◌}
-use Rattle.algebra.specs.Decided.{Tells, in_T}
+use Rattle.std.specs.Prelude.{◌≡◌, ℕ, ◌*◌, ◌^◌, not, ◌&&◌, List, [], ◌∷◌, length, Result, ◌==◌, MatchResult}
+use Rattle.algebra.specs.Decided.{in_T}
 use Rattle.algebra.specs.Polynomials.{Poly}
 use Rattle.algebra.specs.Scheme.{lifting, opened_a, opened_m, opened_r}
 use Rattle.algebra.specs.Ternary.{Ternary}
+use Rattle.scheme.specs.declared.refusal.Refusal.{Refusal}
 use Rattle.scheme.specs.declared.refusal.Refusal.TheVariants.{NoSuchSet, InputLength, OutputLength, TernaryByte, NoPair}
 use Rattle.scheme.specs.CardPolynomials.{polynomials, ternary_stretch}
 use Rattle.scheme.specs.Steps.{Step, stop, make_rows}
@@ -41,8 +42,9 @@ opens set card sealed out =
     ∷ stop NoPair (not (in_T n (found_r n w p.f p.fp p.hq (balanced_polynomial n w sealed))))
     ∷ []
 
--- the polynomials of a card and a sealed record are opened: a tells whether r' is in T, and the pair record is then written
-pub record Opened (n w : ℕ) (f fp hq c : Poly) (a : Bool) (before after : List ℕ) : Type 0 where
-  pub tells : Tells a (Ternary n (found_r n w f fp hq c))
-  pub pair : a ≡ true → after ≡ pair_of n (found_r n w f fp hq c) (found_m n w f fp c)
-  pub none : a ≡ false → after ≡ before
+-- the polynomials of a card and a sealed record are opened: r' is in T, and the pair record is written; or it is not, and nothing is written
+abbrev pub Opened : (n w : ℕ) → (f fp hq c : Poly) → Result (Unit {0}) Refusal → (before after : List ℕ) → Type 0
+Opened n w f fp hq c answer before after =
+    MatchResult answer
+    (λ _. Ternary n (found_r n w f fp hq c) × (after ≡ pair_of n (found_r n w f fp hq c) (found_m n w f fp c)))
+    (λ e. (Ternary n (found_r n w f fp hq c) → ⊥) × (e ≡ NoPair) × (after ≡ before))

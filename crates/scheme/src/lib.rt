@@ -16,6 +16,7 @@ mod making;
 mod opening;
 mod pair;
 mod polynomial;
+mod product;
 mod refusal;
 mod sealing;
 mod set;

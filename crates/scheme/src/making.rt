@@ -1,21 +1,22 @@
 // Make: a card from coins.
-ghost use Rattle.std.specs.Prelude.{◌≡◌, ℕ, ◌*◌, ◌^◌, ◌≤◌, true, false, ◌++◌, length, pos};
-ghost use Rattle.algebra.specs.Polynomials.{InverseMod, NoInverseMod, Poly, SameMod, scale};
+ghost use Rattle.std.specs.Prelude.{◌≡◌, ◌*◌, ◌^◌, ◌≤◌, ◌++◌, length, pos, MatchResult};
+ghost use Rattle.algebra.specs.Polynomials.{InverseMod, NoInverseMod, SameMod, scale};
 ghost use Rattle.algebra.specs.Radix.{Under};
-ghost use Rattle.algebra.specs.Ring.{Agree, integers};
 ghost use Rattle.algebra.specs.Ternary.{Ternary};
 ghost use Rattle.arithmetic.specs.Digits.{coefficients};
 ghost use Rattle.arithmetic.specs.Products.{integers_of};
-ghost use Rattle.scheme.specs.Making.{CardOf, MakeAnswer, MakeOutput, NoCard, Published, WorkedOut, card_record};
+ghost use Rattle.scheme.specs.declared.refusal.Refusal.TheVariants.{NotInvertible};
+ghost use Rattle.scheme.specs.Making.{CardOf, MakeAnswer, MakeOutput, NoCard, Published, card_record};
 ghost use Rattle.scheme.specs.WordPolynomials.{word_record};
 
 use crate::coefficients::signed_words;
 use crate::draws::{Coins, draw_settled};
 use crate::polynomial::{LONGEST, write_all_but_last};
+use crate::product::{digits_times, phi1_times};
 use crate::refusal::Refusal;
 use crate::set::ParameterSet;
 use crate::ternary_polynomial::write_pair;
-use arithmetic::{Digit, Room, RowUnit, inverse_mod_phi, inverse_of_words, multiply, times_phi1};
+use arithmetic::{Digit, Room, RowUnit, inverse_mod_phi, inverse_of_words};
 
 // Three times each word, modulo 2^width.
 fn triple(width: u32, words: &[u16], out: &mut [u16])
@@ -25,90 +26,76 @@ fn triple(width: u32, words: &[u16], out: &mut [u16])
     ensures tripled { SameMod (2 ^ width) (length words.now) (integers_of out.new) (scale (pos 3) (integers_of words.now)) }
 {
     let mask = (1u32 << width) - 1;
-    for i in 0..words.len() {
-        out[i] = (3 * u32::from(words[i]) & mask) as u16;
+    for (i, word) in words.iter().enumerate() {
+        out[i] = (3 * u32::from(*word) & mask) as u16;
     }
 }
 
-// The inverse of f modulo 3, and whether there is one. The lists after fp are room to work in.
-fn invert_modulo_3(
-    f: &[Digit],
-    fp: &mut [Digit],
-    r: &mut [Digit],
-    s: &mut [Digit],
-    t: &mut [Digit],
-    v: &mut [Digit],
-) -> bool
-    requires sizes { 2 ≤ length f.now }
-    requires room { (length fp.old ≡ length f.now) × ((length r.old ≡ length f.now) × ((length s.old ≡ length f.now) × ((length t.old ≡ length f.now) × (length v.old ≡ length f.now)))) }
-    ensures found { result ≡ true → InverseMod 3 (length f.now) (coefficients f.now) (coefficients fp.new) }
-    ensures reduced { result ≡ true → Ternary (length f.now) (coefficients fp.new) }
-    ensures none { result ≡ false → NoInverseMod 3 (length f.now) (coefficients f.now) }
+// Writes the inverse of f modulo 3 and 1 + x + .. + x^(n - 1).
+fn invert_modulo_3(f: &[Digit], fp: &mut [Digit]) -> Result<(), Refusal>
+    requires sizes { (2 ≤ length f.now) × (length f.now ≤ 1408) }
+    requires room { length fp.old ≡ length f.now }
+    ensures { MatchResult result
+        (λ _. InverseMod 3 (length f.now) (coefficients f.now) (coefficients fp.new) × Ternary (length f.now) (coefficients fp.new))
+        (λ e. NoInverseMod 3 (length f.now) (coefficients f.now) × (e ≡ NotInvertible)) }
 {
-    inverse_mod_phi(f, fp, r, s, t, v).is_some()
+    let n = f.len();
+    let mut r = [Digit::ZERO; LONGEST];
+    let mut s = [Digit::ZERO; LONGEST];
+    let mut t = [Digit::ZERO; LONGEST];
+    let mut v = [Digit::ZERO; LONGEST];
+    let degree = inverse_mod_phi(f, fp, &mut r[..n], &mut s[..n], &mut t[..n], &mut v[..n]);
+    degree.ok_or(Refusal::NotInvertible)?;
+    Ok(())
 }
 
-// The public key 3 (x - 1) g fq modulo 2^width, where fq is the inverse of f, and whether f has one. The lists after h are room to work in.
+// Writes the inverse of f modulo 2^width and 1 + x + .. + x^(n - 1).
+fn invert_modulo_q<U: RowUnit>(
+    unit: &mut U,
+    set: ParameterSet,
+    f: &[Digit],
+    fq: &mut [u16],
+) -> Result<(), Refusal>
+    requires { (length f.now ≡ set.n) × (length fq.old ≡ set.n) }
+    ensures inverse { MatchResult result
+        (λ _. InverseMod (2 ^ set.width) set.n (coefficients f.now) (integers_of fq.new))
+        (λ e. NoInverseMod 2 set.n (coefficients f.now) × (e ≡ NotInvertible)) }
+    ensures count { U.rows unit.old ≤ U.rows unit.new }
+{
+    let mut room = [0u16; LONGEST];
+    let words = &mut room[..set.n];
+    signed_words(f, words);
+    inverse_of_words(unit, set.width, words, fq).ok_or(Refusal::NotInvertible)?;
+    Ok(())
+}
+
+// Writes the public key 3 (x - 1) g fq modulo 2^width, where fq is the inverse of f.
 fn make_public<U: RowUnit>(
     unit: &mut U,
-    width: u32,
+    set: ParameterSet,
     f: &[Digit],
     g: &[Digit],
     h: &mut [u16],
-    x: &mut [u16],
-    y: &mut [u16],
-    doubled: &mut [u16],
-) -> bool
-    requires width { (1 ≤ width) × (width ≤ 16) }
-    requires sizes { (2 ≤ length f.now) × (length f.now ≤ 1408) }
-    requires room { (length g.now ≡ length f.now) × ((length h.old ≡ length f.now) × ((length x.old ≡ length f.now) × ((length y.old ≡ length f.now) × (length doubled.old ≡ 2 * length f.now)))) }
-    ensures made { result ≡ true → Published (length f.now) width (coefficients f.now) (coefficients g.now) h.new }
-    ensures none { result ≡ false → NoInverseMod 2 (length f.now) (coefficients f.now) }
+) -> Result<(), Refusal>
+    requires digits { (length f.now ≡ set.n) × (length g.now ≡ set.n) }
+    requires room { length h.old ≡ set.n }
+    ensures made { MatchResult result
+        (λ _. Published set.n set.width (coefficients f.now) (coefficients g.now) h.new)
+        (λ e. NoInverseMod 2 set.n (coefficients f.now) × (e ≡ NotInvertible)) }
     ensures count { U.rows unit.old ≤ U.rows unit.new }
 {
-    signed_words(f, x);
-    if inverse_of_words(unit, width, x, y).is_none() {
-        return false;
-    }
-    signed_words(g, x);
-    let _ = multiply(unit, x, y, doubled, h);
-    let _ = times_phi1(h, x);
-    triple(width, x, h);
-    true
-}
-
-// fp, h and hq from f and g, and whether all inverses are there. The lists after hq are room to work in.
-fn make_over<U: RowUnit>(
-    unit: &mut U,
-    width: u32,
-    f: &[Digit],
-    g: &[Digit],
-    fp: &mut [Digit],
-    h: &mut [u16],
-    hq: &mut [u16],
-    r: &mut [Digit],
-    s: &mut [Digit],
-    t: &mut [Digit],
-    v: &mut [Digit],
-    x: &mut [u16],
-    y: &mut [u16],
-    doubled: &mut [u16],
-) -> bool
-    requires width { (1 ≤ width) × (width ≤ 16) }
-    requires sizes { (2 ≤ length f.now) × (length f.now ≤ 1408) }
-    requires results { (length g.now ≡ length f.now) × ((length fp.old ≡ length f.now) × ((length h.old ≡ length f.now) × (length hq.old ≡ length f.now))) }
-    requires digits { (length r.old ≡ length f.now) × ((length s.old ≡ length f.now) × ((length t.old ≡ length f.now) × (length v.old ≡ length f.now))) }
-    requires words { (length x.old ≡ length f.now) × ((length y.old ≡ length f.now) × (length doubled.old ≡ 2 * length f.now)) }
-    ensures polynomials { WorkedOut (length f.now) width (coefficients f.now) (coefficients g.now) result fp.new h.new hq.new }
-    ensures count { U.rows unit.old ≤ U.rows unit.new }
-{
-    if !invert_modulo_3(f, fp, r, s, t, v) {
-        return false;
-    }
-    if !make_public(unit, width, f, g, h, x, y, doubled) {
-        return false;
-    }
-    inverse_of_words(unit, width, h, hq).is_some()
+    let n = set.n;
+    let mut fq_room = [0u16; LONGEST];
+    let mut product_room = Room::new();
+    let mut turned_room = [0u16; LONGEST];
+    let fq = &mut fq_room[..n];
+    let g_fq = &mut product_room.words[..n];
+    let turned = &mut turned_room[..n];
+    invert_modulo_q(unit, set, f, fq)?;
+    digits_times(unit, set, g, fq, g_fq);
+    phi1_times(set, g_fq, turned);
+    triple(set.width, turned, h);
+    Ok(())
 }
 
 // Writes the parts h and hq.
@@ -134,81 +121,37 @@ fn write_card(set: ParameterSet, f: &[Digit], fp: &[Digit], h: &[u16], hq: &[u16
     write_words(set, h, hq, &mut out[pair..]);
 }
 
-// Makes the card of coins, and answers whether there is one. Where there is none, `out` stays as it was. The lists after `out` are room to work in.
-fn make_card_over<U: RowUnit>(
+// Makes the card of coins. Where there is none, `out` stays as it was.
+fn make_card<U: RowUnit>(
     unit: &mut U,
     set: ParameterSet,
     coins: &[u8],
     out: &mut [u8],
-    f: &mut [Digit],
-    g: &mut [Digit],
-    fp: &mut [Digit],
-    r: &mut [Digit],
-    s: &mut [Digit],
-    t: &mut [Digit],
-    v: &mut [Digit],
-    h: &mut [u16],
-    hq: &mut [u16],
-    x: &mut [u16],
-    y: &mut [u16],
-    doubled: &mut [u16],
-) -> bool
+) -> Result<(), Refusal>
     requires coins { length coins.now ≡ set.coins }
     requires card { length out.old ≡ set.card }
-    requires digits { (length f.old ≡ set.n) × ((length g.old ≡ set.n) × (length fp.old ≡ set.n)) }
-    requires room { (length r.old ≡ set.n) × ((length s.old ≡ set.n) × ((length t.old ≡ set.n) × (length v.old ≡ set.n))) }
-    requires words { (length h.old ≡ set.n) × ((length hq.old ≡ set.n) × ((length x.old ≡ set.n) × ((length y.old ≡ set.n) × (length doubled.old ≡ 2 * set.n)))) }
-    ensures made { result ≡ true → CardOf set.n set.width coins.now out.new }
-    ensures none { result ≡ false → NoCard set.n set.width coins.now × (out.new ≡ out.old) }
-    ensures count { U.rows unit.old ≤ U.rows unit.new }
-{
-    draw_settled(Coins { set, bytes: coins }, f, g);
-    if !make_over(unit, set.width, f, g, fp, h, hq, r, s, t, v, x, y, doubled) {
-        return false;
-    }
-    write_card(set, f, fp, h, hq, out);
-    true
-}
-
-// The same with lists of its own.
-fn make_card<U: RowUnit>(unit: &mut U, set: ParameterSet, coins: &[u8], out: &mut [u8]) -> bool
-    requires coins { length coins.now ≡ set.coins }
-    requires card { length out.old ≡ set.card }
-    ensures made { result ≡ true → CardOf set.n set.width coins.now out.new }
-    ensures none { result ≡ false → NoCard set.n set.width coins.now × (out.new ≡ out.old) }
+    ensures made { MatchResult result
+        (λ _. CardOf set.n set.width coins.now out.new)
+        (λ e. NoCard set.n set.width coins.now × ((out.new ≡ out.old) × (e ≡ NotInvertible))) }
     ensures count { U.rows unit.old ≤ U.rows unit.new }
 {
     let n = set.n;
-    let mut f = [Digit::ZERO; LONGEST];
-    let mut g = [Digit::ZERO; LONGEST];
-    let mut fp = [Digit::ZERO; LONGEST];
-    let mut r = [Digit::ZERO; LONGEST];
-    let mut s = [Digit::ZERO; LONGEST];
-    let mut t = [Digit::ZERO; LONGEST];
-    let mut v = [Digit::ZERO; LONGEST];
-    let mut h = Room::new();
-    let mut hq = [0u16; LONGEST];
-    let mut x = [0u16; LONGEST];
-    let mut y = [0u16; LONGEST];
-    let mut doubled = [0u16; 2 * LONGEST];
-    make_card_over(
-        unit,
-        set,
-        coins,
-        out,
-        &mut f[0..n],
-        &mut g[0..n],
-        &mut fp[0..n],
-        &mut r[0..n],
-        &mut s[0..n],
-        &mut t[0..n],
-        &mut v[0..n],
-        &mut h.words[0..n],
-        &mut hq[0..n],
-        &mut x[0..n],
-        &mut y[0..n],
-        &mut doubled[0..2 * n],
-    )
+    let mut f_room = [Digit::ZERO; LONGEST];
+    let mut g_room = [Digit::ZERO; LONGEST];
+    let mut fp_room = [Digit::ZERO; LONGEST];
+    let mut h_room = [0u16; LONGEST];
+    let mut hq_room = [0u16; LONGEST];
+    let f = &mut f_room[..n];
+    let g = &mut g_room[..n];
+    let fp = &mut fp_room[..n];
+    let h = &mut h_room[..n];
+    let hq = &mut hq_room[..n];
+    draw_settled(Coins { set, bytes: coins }, f, g);
+    invert_modulo_3(f, fp)?;
+    make_public(unit, set, f, g, h)?;
+    inverse_of_words(unit, set.width, h, hq).ok_or(Refusal::NotInvertible)?;
+    write_card(set, f, fp, h, hq, out);
+    Ok(())
 }
 
 // Makes the card of coins, which are only read.
@@ -229,8 +172,5 @@ pub(crate) fn make_drawn<U: RowUnit>(
     if out.len() != set.card {
         return Err(Refusal::OutputLength);
     }
-    if !make_card(unit, set, coins, out) {
-        return Err(Refusal::NotInvertible);
-    }
-    Ok(())
+    make_card(unit, set, coins, out)
 }

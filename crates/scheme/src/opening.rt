@@ -1,13 +1,12 @@
 // Open: the pair of a sealed record.
-ghost use Rattle.std.specs.Prelude.{◌≡◌, ℕ, ◌-◌, ◌*◌, ◌%◌, ◌^◌, ◌≤◌, true, length};
-ghost use Rattle.algebra.specs.Decided.{Tells};
-ghost use Rattle.algebra.specs.Polynomials.{Poly};
+ghost use Rattle.std.specs.Prelude.{◌≡◌, ◌*◌, ◌^◌, true, length, MatchResult};
 ghost use Rattle.algebra.specs.Ring.{Agree, integers};
 ghost use Rattle.algebra.specs.Scheme.{lifting, opened_a, opened_m, opened_r};
 ghost use Rattle.algebra.specs.Ternary.{Ternary};
 ghost use Rattle.arithmetic.specs.Digits.{coefficients};
 ghost use Rattle.arithmetic.specs.Products.{integers_of};
 ghost use Rattle.arithmetic.specs.Rows.{raised};
+ghost use Rattle.scheme.specs.declared.refusal.Refusal.TheVariants.{NoPair};
 ghost use Rattle.scheme.specs.Exactness.{IsKeyOf, OpensExactly};
 ghost use Rattle.scheme.specs.Opening.{Opened, opened_record, opens};
 ghost use Rattle.scheme.specs.Refusals.{left};
@@ -17,159 +16,106 @@ ghost use Rattle.scheme.specs.TernaryParts.{holds_digits};
 ghost use Rattle.scheme.specs.TernaryPolynomials.{ternary_polynomial};
 ghost use Rattle.scheme.specs.WordPolynomials.{balanced_polynomial, padded_polynomial};
 
-use crate::card::split_card;
-use crate::coefficients::{centre_codes, code_words, read_reduced, reduce_modulo_3, signed_words};
-use crate::lifting::{lift, times_phi1_words};
+use crate::card::{Parts, split_card};
+use crate::coefficients::{centre_digits, read_reduced};
+use crate::lifting::lift;
 use crate::polynomial::{LONGEST, read_balanced, read_padded};
+use crate::product::{product, product_modulo_3, times_digits};
 use crate::refusal::Refusal;
 use crate::set::ParameterSet;
 use crate::sums::subtract_words;
 use crate::ternary::all_hold_digits;
 use crate::ternary_polynomial::{read_ternary, write_pair};
-use arithmetic::{Digit, Room, RowUnit, multiply};
+use arithmetic::{Digit, Room, RowUnit};
 
 // m' of a sealed polynomial c: a is c f, centred modulo 2^width, and m' is a fp, reduced modulo 3 and 1 + x + .. + x^(n - 1).
-// The lists after m are room to work in.
 fn find_m<U: RowUnit>(
     unit: &mut U,
-    width: u32,
+    set: ParameterSet,
     c: &[u16],
     f: &[Digit],
     fp: &[Digit],
     m: &mut [Digit],
-    x: &mut [u16],
-    y: &mut [u16],
-    z: &mut [u16],
-    doubled: &mut [u16],
 )
-    requires width { (1 ≤ width) × (width ≤ 16) }
-    requires sizes { (2 ≤ length c.now) × (length c.now ≤ 1408) }
-    requires polynomials { (length f.now ≡ length c.now) × ((length fp.now ≡ length c.now) × (length m.old ≡ length c.now)) }
-    requires last { Ternary (length c.now) (coefficients fp.now) }
-    requires room { (length x.old ≡ length c.now) × ((length y.old ≡ length c.now) × ((length z.old ≡ length c.now) × (length doubled.old ≡ 2 * length c.now))) }
-    ensures message { Agree integers (length c.now) (coefficients m.new) (opened_m (length c.now) (coefficients fp.now) (opened_a (length c.now) (2 ^ width) (coefficients f.now) (integers_of c.now))) }
-    ensures count { U.rows unit.new ≡ raised (2 * length c.now) (U.rows unit.old) }
+    requires polynomials { (length c.now ≡ set.n) × ((length f.now ≡ set.n) × ((length fp.now ≡ set.n) × (length m.old ≡ set.n))) }
+    requires last { Ternary set.n (coefficients fp.now) }
+    ensures message { Agree integers set.n (coefficients m.new) (opened_m set.n (coefficients fp.now) (opened_a set.n (2 ^ set.width) (coefficients f.now) (integers_of c.now))) }
+    ensures count { U.rows unit.new ≡ raised (2 * set.n) (U.rows unit.old) }
 {
-    signed_words(f, x);
-    let _ = multiply(unit, c, x, doubled, y);
-    centre_codes(width, y, x);
-    code_words(fp, y);
-    let _ = multiply(unit, x, y, doubled, z);
-    reduce_modulo_3(z, m);
+    let n = set.n;
+    let mut cf_room = Room::new();
+    let mut a_room = [Digit::ZERO; LONGEST];
+    let cf = &mut cf_room.words[..n];
+    let a = &mut a_room[..n];
+    times_digits(unit, set, c, f, cf);
+    centre_digits(set.width, cf, a);
+    product_modulo_3(unit, set, a, fp, m);
 }
 
-// r' of a sealed polynomial c and its m': b is c - (x - 1) s, where s lifts m', and r' is b hq, reduced modulo 2^width and
-// 1 + x + .. + x^(n - 1) and centred. Answers whether r' has digits alone. c becomes b, and the lists after r are room to work in.
+// r' of a sealed polynomial c and its m': b is c - Lift(m'), and r' is b hq, reduced modulo 2^width and 1 + x + .. + x^(n - 1) and
+// centred, where that has digits alone. c becomes b.
 fn find_r<U: RowUnit>(
     unit: &mut U,
-    width: u32,
+    set: ParameterSet,
     c: &mut [u16],
     m: &[Digit],
     hq: &[u16],
     r: &mut [Digit],
-    s: &mut [Digit],
-    x: &mut [u16],
-    y: &mut [u16],
-    doubled: &mut [u16],
-) -> bool
-    requires width { (2 ≤ width) × (width ≤ 16) }
-    requires sizes { (2 ≤ length c.old) × (length c.old ≤ 1408) }
-    requires coprime { length c.old % 3 ≡ 0 → ⊥ }
-    requires polynomials { (length m.now ≡ length c.old) × ((length hq.now ≡ length c.old) × (length r.old ≡ length c.old)) }
-    requires room { (length s.old ≡ length c.old) × ((length x.old ≡ length c.old) × ((length y.old ≡ length c.old) × (length doubled.old ≡ 2 * length c.old))) }
-    ensures answer { Tells result (Ternary (length c.old) (opened_r (length c.old) (2 ^ width) (integers_of hq.now) (integers_of c.old) (lifting (length c.old) (coefficients m.now)))) }
-    ensures factor { result ≡ true → Agree integers (length c.old) (coefficients r.new) (opened_r (length c.old) (2 ^ width) (integers_of hq.now) (integers_of c.old) (lifting (length c.old) (coefficients m.now))) }
-    ensures count { U.rows unit.new ≡ raised (length c.old) (U.rows unit.old) }
+) -> Result<(), Refusal>
+    requires words { (length c.old ≡ set.n) × (length hq.now ≡ set.n) }
+    requires digits { (length m.now ≡ set.n) × (length r.old ≡ set.n) }
+    ensures factor { let u = opened_r set.n (2 ^ set.width) (integers_of hq.now) (integers_of c.old) (lifting set.n (coefficients m.now)) in MatchResult result
+        (λ _. Ternary set.n u × Agree integers set.n (coefficients r.new) u)
+        (λ e. (Ternary set.n u → ⊥) × (e ≡ NoPair)) }
+    ensures count { U.rows unit.new ≡ raised set.n (U.rows unit.old) }
 {
-    lift(m, s);
-    times_phi1_words(s, x, y);
-    subtract_words(c, y);
-    let _ = multiply(unit, c, hq, doubled, x);
-    read_reduced(width, x, r)
+    let n = set.n;
+    let mut lifted_room = [0u16; LONGEST];
+    let mut product_room = Room::new();
+    let lifted = &mut lifted_room[..n];
+    let b_hq = &mut product_room.words[..n];
+    lift(set, m, lifted);
+    subtract_words(c, lifted);
+    product(unit, set, c, hq, b_hq);
+    read_reduced(set.width, b_hq, r).ok_or(Refusal::NoPair)
 }
 
-// Opens a sealed record under the parts f, fp and hq of a card, and answers whether there is a pair. Where there is none, `pair` stays as it was.
-// The lists after `pair` are room to work in.
-fn open_over<U: RowUnit>(
-    unit: &mut U,
-    set: ParameterSet,
-    f: &[u8],
-    fp: &[u8],
-    hq: &[u8],
-    sealed: &[u8],
-    pair: &mut [u8],
-    k: &mut [Digit],
-    l: &mut [Digit],
-    m: &mut [Digit],
-    c: &mut [u16],
-    x: &mut [u16],
-    y: &mut [u16],
-    z: &mut [u16],
-    doubled: &mut [u16],
-) -> bool
-    requires parts { (length f.now ≡ set.ternary) × ((length fp.now ≡ set.ternary) × (length hq.now ≡ set.word)) }
-    requires held { (holds_digits f.now ≡ true) × (holds_digits fp.now ≡ true) }
-    requires records { (length sealed.now ≡ set.word) × (length pair.old ≡ set.pair) }
-    requires digits { (length k.old ≡ set.n) × ((length l.old ≡ set.n) × (length m.old ≡ set.n)) }
-    requires words { (length c.old ≡ set.n) × ((length x.old ≡ set.n) × ((length y.old ≡ set.n) × ((length z.old ≡ set.n) × (length doubled.old ≡ 2 * set.n)))) }
-    ensures opened { Opened set.n set.width (ternary_polynomial set.n f.now) (ternary_polynomial set.n fp.now) (padded_polynomial set.n set.width hq.now) (balanced_polynomial set.n set.width sealed.now) result pair.old pair.new }
-    ensures count { U.rows unit.new ≡ raised (3 * set.n) (U.rows unit.old) }
-{
-    read_ternary(f, k);
-    read_ternary(fp, l);
-    read_balanced(set.bits(), sealed, c);
-    find_m(unit, set.width, c, k, l, m, x, y, z, doubled);
-    read_padded(set.bits(), hq, z);
-    // The lists of f and fp are free again.
-    if !find_r(unit, set.width, c, m, z, k, l, x, y, doubled) {
-        return false;
-    }
-    write_pair(set, k, m, pair);
-    true
-}
-
-// The same with lists of its own.
+// Opens a sealed record under the parts of a card. Where there is no pair, `pair` stays as it was.
 fn open_parts<U: RowUnit>(
     unit: &mut U,
     set: ParameterSet,
-    f: &[u8],
-    fp: &[u8],
-    hq: &[u8],
+    parts: Parts<'_>,
     sealed: &[u8],
     pair: &mut [u8],
-) -> bool
-    requires parts { (length f.now ≡ set.ternary) × ((length fp.now ≡ set.ternary) × (length hq.now ≡ set.word)) }
-    requires held { (holds_digits f.now ≡ true) × (holds_digits fp.now ≡ true) }
+) -> Result<(), Refusal>
+    requires ternary { (length parts.f.bytes.now ≡ set.ternary) × (length parts.fp.bytes.now ≡ set.ternary) }
+    requires held { (holds_digits parts.f.bytes.now ≡ true) × (holds_digits parts.fp.bytes.now ≡ true) }
+    requires words { length parts.hq.bytes.now ≡ set.word }
     requires records { (length sealed.now ≡ set.word) × (length pair.old ≡ set.pair) }
-    ensures opened { Opened set.n set.width (ternary_polynomial set.n f.now) (ternary_polynomial set.n fp.now) (padded_polynomial set.n set.width hq.now) (balanced_polynomial set.n set.width sealed.now) result pair.old pair.new }
+    ensures opened { Opened set.n set.width (ternary_polynomial set.n parts.entry.f.bytes.now) (ternary_polynomial set.n parts.entry.fp.bytes.now) (padded_polynomial set.n set.width parts.entry.hq.bytes.now) (balanced_polynomial set.n set.width sealed.now) result pair.old pair.new }
     ensures count { U.rows unit.new ≡ raised (3 * set.n) (U.rows unit.old) }
 {
     let n = set.n;
-    let mut k = [Digit::ZERO; LONGEST];
-    let mut l = [Digit::ZERO; LONGEST];
-    let mut m = [Digit::ZERO; LONGEST];
-    let mut c = [0u16; LONGEST];
-    let mut x = Room::new();
-    let mut y = Room::new();
-    let mut z = Room::new();
-    let mut doubled = [0u16; 2 * LONGEST];
-    open_over(
-        unit,
-        set,
-        f,
-        fp,
-        hq,
-        sealed,
-        pair,
-        &mut k[0..n],
-        &mut l[0..n],
-        &mut m[0..n],
-        &mut c[0..n],
-        &mut x.words[0..n],
-        &mut y.words[0..n],
-        &mut z.words[0..n],
-        &mut doubled[0..2 * n],
-    )
+    let mut f_room = [Digit::ZERO; LONGEST];
+    let mut fp_room = [Digit::ZERO; LONGEST];
+    let mut m_room = [Digit::ZERO; LONGEST];
+    let mut r_room = [Digit::ZERO; LONGEST];
+    let mut c_room = [0u16; LONGEST];
+    let mut hq_room = [0u16; LONGEST];
+    let f = &mut f_room[..n];
+    let fp = &mut fp_room[..n];
+    let m = &mut m_room[..n];
+    let r = &mut r_room[..n];
+    let c = &mut c_room[..n];
+    let hq = &mut hq_room[..n];
+    read_ternary(parts.f.bytes, f);
+    read_ternary(parts.fp.bytes, fp);
+    read_balanced(set.bits(), sealed, c);
+    read_padded(set.bits(), parts.hq.bytes, hq);
+    find_m(unit, set, c, f, fp, m);
+    find_r(unit, set, c, m, hq, r)?;
+    write_pair(set, r, m, pair);
+    Ok(())
 }
 
 // Opens a sealed record under a card.
@@ -197,18 +143,7 @@ fn open_card<U: RowUnit>(
         return Err(Refusal::TernaryByte);
     }
     let parts = split_card(card, set)?;
-    if !open_parts(
-        unit,
-        set,
-        parts.f.bytes,
-        parts.fp.bytes,
-        parts.hq.bytes,
-        sealed,
-        pair,
-    ) {
-        return Err(Refusal::NoPair);
-    }
-    Ok(())
+    open_parts(unit, set, parts, sealed, pair)
 }
 
 // Opens a sealed record under a card: writes the pair that encrypts to it. Under a key, `NoPair` says that no pair does.

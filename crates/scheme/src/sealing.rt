@@ -1,5 +1,5 @@
 // Seal: c = r h + Lift(m) modulo 2^w.
-ghost use Rattle.std.specs.Prelude.{◌≡◌, ℕ, ◌-◌, ◌*◌, ◌/◌, ◌%◌, ◌≤◌, length, ◌≢◌};
+ghost use Rattle.std.specs.Prelude.{◌≡◌, length};
 ghost use Rattle.algebra.specs.Polynomials.{SameMod};
 ghost use Rattle.arithmetic.specs.Digits.{coefficients};
 ghost use Rattle.arithmetic.specs.Products.{integers_of};
@@ -12,99 +12,55 @@ ghost use Rattle.scheme.specs.Sets.{length_of, width_of};
 ghost use Rattle.scheme.specs.WordPolynomials.{balanced_polynomial};
 
 use crate::card::split_card;
-use crate::coefficients::signed_words;
 use crate::draws::{Coins, draw_both};
-use crate::lifting::{lift, times_phi1_words};
+use crate::lifting::lift;
 use crate::polynomial::{LONGEST, read_balanced, write_all_but_last};
+use crate::product::digits_times;
 use crate::refusal::Refusal;
 use crate::set::ParameterSet;
 use crate::sums::add_words;
-use arithmetic::{Digit, Room, RowUnit, multiply};
+use arithmetic::{Digit, Room, RowUnit};
 
-// Writes r h + (x - 1) s to c, modulo 65536, where s lifts m. The lists after c are room to work in.
+// Writes r h + Lift(m) to c, modulo 65536.
 fn encrypt<U: RowUnit>(
     unit: &mut U,
+    set: ParameterSet,
     r: &[Digit],
     m: &[Digit],
     h: &[u16],
     c: &mut [u16],
-    s: &mut [Digit],
-    x: &mut [u16],
-    y: &mut [u16],
-    doubled: &mut [u16],
 )
-    requires sizes { (2 ≤ length r.now) × (length r.now ≤ 1408) }
-    requires coprime { length r.now % 3 ≢ 0 }
-    requires polynomials { (length m.now ≡ length r.now) × ((length h.now ≡ length r.now) × (length c.old ≡ length r.now)) }
-    requires room { (length s.old ≡ length r.now) × ((length x.old ≡ length r.now) × ((length y.old ≡ length r.now) × (length doubled.old ≡ 2 * length r.now))) }
-    ensures ciphertext { SameMod 65536 (length r.now) (integers_of c.new) (encrypted (length r.now) (integers_of h.now) (coefficients r.now) (coefficients m.now)) }
-    ensures count { U.rows unit.new ≡ raised (length r.now) (U.rows unit.old) }
-{
-    signed_words(r, x);
-    let _ = multiply(unit, x, h, doubled, c);
-    lift(m, s);
-    times_phi1_words(s, x, y);
-    add_words(c, y);
-}
-
-// Seals what the coins draw to the public key that stands in the bytes h of a card. The lists after `out` are room to work in.
-fn seal_over<U: RowUnit>(
-    unit: &mut U,
-    set: ParameterSet,
-    h: &[u8],
-    coins: &[u8],
-    out: &mut [u8],
-    r: &mut [Digit],
-    m: &mut [Digit],
-    s: &mut [Digit],
-    key: &mut [u16],
-    c: &mut [u16],
-    x: &mut [u16],
-    y: &mut [u16],
-    doubled: &mut [u16],
-)
-    requires records { (length h.now ≡ set.word) × ((length coins.now ≡ set.coins) × (length out.old ≡ set.word)) }
-    requires digits { (length r.old ≡ set.n) × ((length m.old ≡ set.n) × (length s.old ≡ set.n)) }
-    requires words { (length key.old ≡ set.n) × ((length c.old ≡ set.n) × ((length x.old ≡ set.n) × ((length y.old ≡ set.n) × (length doubled.old ≡ 2 * set.n)))) }
-    ensures output { out.new ≡ sealed_record set.n set.width (balanced_polynomial set.n set.width h.now) coins.now }
+    requires digits { (length r.now ≡ set.n) × (length m.now ≡ set.n) }
+    requires words { (length h.now ≡ set.n) × (length c.old ≡ set.n) }
+    ensures ciphertext { SameMod 65536 set.n (integers_of c.new) (encrypted set.n (integers_of h.now) (coefficients r.now) (coefficients m.now)) }
     ensures count { U.rows unit.new ≡ raised set.n (U.rows unit.old) }
 {
-    draw_both(Coins { set, bytes: coins }, r, m);
-    read_balanced(set.bits(), h, key);
-    encrypt(unit, r, m, key, c, s, x, y, doubled);
-    write_all_but_last(set.bits(), c, out);
+    let mut lifted_room = [0u16; LONGEST];
+    let lifted = &mut lifted_room[..set.n];
+    digits_times(unit, set, r, h, c);
+    lift(set, m, lifted);
+    add_words(c, lifted);
 }
 
-// The same with lists of its own.
+// Seals what the coins draw to the public key that stands in the bytes h of a card.
 fn seal_pair<U: RowUnit>(unit: &mut U, set: ParameterSet, h: &[u8], coins: &[u8], out: &mut [u8])
     requires records { (length h.now ≡ set.word) × ((length coins.now ≡ set.coins) × (length out.old ≡ set.word)) }
     ensures output { out.new ≡ sealed_record set.n set.width (balanced_polynomial set.n set.width h.now) coins.now }
     ensures count { U.rows unit.new ≡ raised set.n (U.rows unit.old) }
 {
     let n = set.n;
-    let mut r = [Digit::ZERO; LONGEST];
-    let mut m = [Digit::ZERO; LONGEST];
-    let mut s = [Digit::ZERO; LONGEST];
-    let mut key = [0u16; LONGEST];
-    let mut c = Room::new();
-    let mut x = [0u16; LONGEST];
-    let mut y = [0u16; LONGEST];
-    let mut doubled = [0u16; 2 * LONGEST];
-    seal_over(
-        unit,
-        set,
-        h,
-        coins,
-        out,
-        &mut r[0..n],
-        &mut m[0..n],
-        &mut s[0..n],
-        &mut key[0..n],
-        &mut c.words[0..n],
-        &mut x[0..n],
-        &mut y[0..n],
-        &mut doubled[0..2 * n],
-    );
+    let mut r_room = [Digit::ZERO; LONGEST];
+    let mut m_room = [Digit::ZERO; LONGEST];
+    let mut key_room = [0u16; LONGEST];
+    let mut c_room = Room::new();
+    let r = &mut r_room[..n];
+    let m = &mut m_room[..n];
+    let key = &mut key_room[..n];
+    let c = &mut c_room.words[..n];
+    draw_both(Coins { set, bytes: coins }, r, m);
+    read_balanced(set.bits(), h, key);
+    encrypt(unit, set, r, m, key, c);
+    write_all_but_last(set.bits(), c, out);
 }
 
 // Seals what the coins, which are only read, draw to the public key of a card.

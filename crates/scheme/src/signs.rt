@@ -10,7 +10,7 @@ fn neighbours(a: Digit, b: Digit) -> i32
     ensures value { result ≡ number a *ℤ number b }
     ensures small { unsigned_abs result ≤ 1 }
 {
-    i32::from(a.signed()) * i32::from(b.signed())
+    i32::from(i8::from(a)) * i32::from(i8::from(b))
 }
 
 // The sum of v_i times v_(i+1), for i from 0 to n - 3.

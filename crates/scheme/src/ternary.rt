@@ -76,6 +76,6 @@ pub(crate) fn unpack(bytes: &[u8], out: &mut [Digit])
     ensures { out.new ≡ ternary_digits (length out.old) bytes.now }
 {
     for (i, d) in out.iter_mut().enumerate() {
-        *d = Digit::from_number(u16::from(bytes[i / 5] / POWERS[i % 5]));
+        *d = Digit::from(u16::from(bytes[i / 5] / POWERS[i % 5]));
     }
 }

@@ -1,29 +1,17 @@
-use Rattle.std.proofs.Common.{length, arith}
-use Rattle.algebra.specs.Ring.{integers, reduce}
-use Rattle.arithmetic.specs.Products.{integers_of}
-use Rattle.scheme.proofs.Working.{Reads, multiplies, q_refused, q_told}
+use Rattle.std.proofs.Common.{sym, ◌∙◌}
+use Rattle.scheme.proofs.Rooms.{in_room, in_zeros}
+use Rattle.scheme.proofs.SetFacts.{wide}
+use Rattle.scheme.proofs.Working.{q_refused, q_told}
 use Rattle.scheme.proofs.key_test.is_inverse_modulo_q.Goals as goal
 
-pub returns-then-not-read_reduced : goal.returns-then-not-read_reduced
-returns-then-not-read_reduced g c =
-    let n = length c.args.h.now in
-    let w = c.args.width in
-    let v = c.multiply.new.out in
-    let product = multiplies n c.requires.sizes.0 c.requires.sizes.1 (omega arith) (omega arith) (omega arith) (omega arith) c.multiply.ensures.product in
-    let read : Reads (length v) w (reduce integers (length v) (integers_of v)) c.read_reduced.result c.read_reduced.new.out = record { answer = c.read_reduced.ensures.answer; digits = c.read_reduced.ensures.digits } in
-    record {
-      answer = q_refused n w c.args.h.now c.args.hq.now v c.read_reduced.new.out c.read_reduced.result c.requires.sizes.0 c.requires.width.0 c.requires.width.1 (omega arith) product.meaning read c.if-not-read_reduced.true;
-      count = product.count;
-    }
+pub returns-then-is_some-clause-answer : goal.returns-then-is_some-clause-answer
+returns-then-is_some-clause-answer g c =
+    let set = c.args.set in
+    q_told set.n set.width c.args.h.now c.args.hq.now c.product.new.out c.read_reduced.new.out set.length.0 (wide set) set.narrow (c.product.auto.out ∙ in_zeros _ c.new-product_room.ensures.zeros set.length.1)
+    c.product.ensures.product c.read_reduced.result c.is_one.result (sym c.is_some.ensures ∙ c.if-is_some.true) c.read_reduced.ensures (c.read_reduced.auto.out ∙ in_room _ set.length.1) c.is_one.ensures
 
-pub returns : goal.returns
-returns g c =
-    let n = length c.args.h.now in
-    let w = c.args.width in
-    let v = c.multiply.new.out in
-    let product = multiplies n c.requires.sizes.0 c.requires.sizes.1 (omega arith) (omega arith) (omega arith) (omega arith) c.multiply.ensures.product in
-    let read : Reads (length v) w (reduce integers (length v) (integers_of v)) c.read_reduced.result c.read_reduced.new.out = record { answer = c.read_reduced.ensures.answer; digits = c.read_reduced.ensures.digits } in
-    record {
-      answer = q_told n w c.args.h.now c.args.hq.now v c.read_reduced.new.out c.read_reduced.result c.requires.sizes.0 c.requires.width.0 c.requires.width.1 (omega arith) product.meaning read c.is_one.result c.if-not-read_reduced.false (omega arith) c.is_one.ensures;
-      count = product.count;
-    }
+pub returns-else-is_some-clause-answer : goal.returns-else-is_some-clause-answer
+returns-else-is_some-clause-answer g c =
+    let set = c.args.set in
+    q_refused set.n set.width c.args.h.now c.args.hq.now c.product.new.out c.read_reduced.new.out set.length.0 (wide set) set.narrow (c.product.auto.out ∙ in_zeros _ c.new-product_room.ensures.zeros set.length.1)
+    c.product.ensures.product c.read_reduced.result c.is_some.result c.is_some.ensures c.if-is_some.false c.read_reduced.ensures

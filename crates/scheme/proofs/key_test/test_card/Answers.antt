@@ -43,8 +43,9 @@ test_parts-requires g c =
     let split = c.in_ok-parts.ensures.parts_or_refusal.1 in
     let digits = sym (tested_bytes set set.n set.width refl refl card) ∙ sym c.all_hold_digits.ensures ∙ c.if-not-all_hold_digits.false in
     record {
-      parts = (split.f.long, (split.fp.long, (split.h.long, split.hq.long)));
+      ternary = (split.f.long, split.fp.long);
       held = held set set.n set.width refl refl card c.in_ok-parts.parts split digits;
+      words = (split.h.long, split.hq.long);
     }
 
 pub returns : goal.returns

@@ -6,18 +6,18 @@ use Rattle.arithmetic.specs.Digits.{coefficients}
 use Rattle.arithmetic.proofs.DigitLoops.{sum_digits_more}
 use Rattle.scheme.proofs.lifting.sum_digits.Goals as goal
 
-pub loop-i-init : goal.loop-i-init
-loop-i-init c = (lit< tt, total_none 3 (coefficients c.args.digits.now))
+pub loop-digit-init : goal.loop-digit-init
+loop-digit-init c = (lit< tt, total_none 3 (coefficients c.args.digits.now))
 
-pub loop-i-preserved : goal.loop-i-preserved
-loop-i-preserved c =
-    let s = c.loop-i in
+pub loop-digit-preserved : goal.loop-digit-preserved
+loop-digit-preserved c =
+    let s = c.loop-digit in
     let r = c.sum-total.result in
-    (r.small, sum_digits_more c.args.digits.now s.i s.total.0 s.invariant.0 c.index-digits-i.result r c.loop-i-test.true c.index-digits-i.is c.sum-total.ensures.adds s.invariant.1)
+    (r.small, sum_digits_more c.args.digits.now s.digit-index s.total.0 s.invariant.0 c.digit-item.result r c.loop-digit-test.true c.digit-item.is c.sum-total.ensures.adds s.invariant.1)
 
 pub returns : goal.returns
 returns c =
-    let s = c.loop-i in
+    let s = c.loop-digit in
     let ds = c.args.digits.now in
-    let all : s.i ≡ length ds = omega arith in
+    let all : s.digit-index ≡ length ds = omega arith in
     subst (λ (n : ℕ). Differ integers (pos 3) (signed s.total.0) (sum integers n (coefficients ds))) all s.invariant.1

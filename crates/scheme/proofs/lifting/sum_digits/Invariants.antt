@@ -4,5 +4,5 @@ use Rattle.algebra.specs.Stands.{signed}
 use Rattle.arithmetic.specs.Digits.{coefficients}
 use Rattle.scheme.proofs.lifting.sum_digits.Given as goal
 
-abbrev pub invariant-loop-i : goal.invariant-loop-i
-invariant-loop-i l = (l.total.0 < 3) × Differ integers (pos 3) (signed l.total.0) (sum integers l.i (coefficients l.digits))
+abbrev pub invariant-loop-digit : goal.invariant-loop-digit
+invariant-loop-digit l = (l.total.0 < 3) × Differ integers (pos 3) (signed l.total.0) (sum integers l.digit-index (coefficients l.digits))

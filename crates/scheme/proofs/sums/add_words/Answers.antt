@@ -1,9 +1,13 @@
-use Rattle.std.proofs.Common.{get_or, ◌+ℤ◌, arith}
-use Rattle.algebra.proofs.WordLoops.{combined_more, word_plus}
+use Rattle.std.proofs.Common.{◌≡◌, ◌+◌, ◌%◌, get_or, rules}
+use Rattle.algebra.proofs.WordLoops.{word_plus}
 use Rattle.scheme.proofs.sums.add_words.Goals as goal
 
-pub loop-i-preserved : goal.loop-i-preserved
-loop-i-preserved c =
-    let s = c.loop-i in
-    let v = c.args.v.now in
-    combined_more 65536 ◌+ℤ◌ c.args.u.now v s.u s.i _ (omega arith) (word_plus 65536 (get_or s.u s.i 0) (get_or v s.i 0)) s.invariant
+pub returns : goal.returns
+returns c = record {
+  at = λ k l.
+      let a = get_or c.args.u.now k 0 in
+      let b = get_or c.args.v.now k 0 in
+      let added = c.combine.ensures k l in
+      let e : get_or c.combine.new.u k 0 ≡ (a + b) % 65536 = search rules in
+      rw e (word_plus 65536 a b);
+}

@@ -1,11 +1,14 @@
-use Rattle.std.proofs.Common.{◌≤◌, get_or, ◌+ℤ◌, neg_ℤ, arith}
+use Rattle.std.proofs.Common.{◌≡◌, ◌+◌, ◌-◌, ◌%◌, ◌≤◌, get_or, arith, rules}
 use Rattle.algebra.proofs.WordInverses.{word_less}
-use Rattle.algebra.proofs.WordLoops.{combined_more}
 use Rattle.scheme.proofs.sums.subtract_words.Goals as goal
 
-pub loop-i-preserved : goal.loop-i-preserved
-loop-i-preserved c =
-    let s = c.loop-i in
-    let v = c.args.v.now in
-    let fits : get_or v s.i 0 ≤ 65536 = omega (arith, c.type_inv.v s.i) in
-    combined_more 65536 (λ a b. a +ℤ neg_ℤ b) c.args.u.now v s.u s.i _ (omega arith) (word_less 65536 (get_or s.u s.i 0) (get_or v s.i 0) fits) s.invariant
+pub returns : goal.returns
+returns c = record {
+  at = λ k l.
+      let a = get_or c.args.u.now k 0 in
+      let b = get_or c.args.v.now k 0 in
+      let taken = c.combine.ensures k l in
+      let e : get_or c.combine.new.u k 0 ≡ (a + (65536 - b)) % 65536 = search rules in
+      let fits : b ≤ 65536 = omega (arith, c.type_inv.v k) in
+      rw e (word_less 65536 a b fits);
+}

@@ -1,5 +1,5 @@
 -- What lists of words and of digits stand for over the integers, and what reduction and the product by x - 1 do there.
-use Rattle.std.proofs.Common.{◌≡◌, ℕ, zero, suc, ◌-◌, ◌%◌, ◌<◌, ◌≤◌, Bool, true, false, List, length, get_or, ℤ, pos, ◌+ℤ◌, sym, refl, ap, ◌∙◌, subst, mod-eq_of_lt, arith, lit<}
+use Rattle.std.proofs.Common.{◌≡◌, ℕ, zero, suc, ◌-◌, ◌%◌, ◌<◌, ◌≤◌, Result, Ok, Err, IsErr, List, length, get_or, ℤ, pos, ◌+ℤ◌, sym, refl, ap, ◌∙◌, subst, mod-eq_of_lt, arith, lit<, rules}
 use Rattle.algebra.specs.Exact.{Ops}
 use Rattle.algebra.specs.Ring.{Agree, Differ, integers, reduce}
 use Rattle.algebra.specs.Residues.{residue, residues, residue_laws}
@@ -41,10 +41,10 @@ module _ {A : Type 0} {o : Ops A} {k : ℕ} {number : A → ℤ} (S : Stands o k
 pub reduce_cong : (k n : ℕ) {u v : Poly} → 1 ≤ n → SameMod k n u v → SameMod k n (reduce integers n u) (reduce integers n v)
 reduce_cong k n some h = let M = mod_laws k in record { at = λ i l. M.add_cong (h.at i l) (M.neg_cong (h.at (n - 1) (omega arith))) }
 
--- an answer that is not false is true
-pub served : (t : Bool) → (t ≡ false → ⊥) → t ≡ true
-served true h = refl
-served false h = absurd (h refl)
+-- an answer that is no refusal is a served one
+pub served : {E : Type 0} (r : Result (Unit {0}) E) → (IsErr r → ⊥) → r ≡ Ok tt
+served (Ok u) h = refl
+served (Err e) h = absurd (h (search rules))
 
 -- ---- words
 -- the numbers that words stand for

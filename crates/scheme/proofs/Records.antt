@@ -3,8 +3,7 @@ use Rattle.std.proofs.Common.{◌≡◌, ℕ, ◌-◌, ◌%◌, ◌^◌, ◌<◌
 use borrow.Rule.Slice.PartMut.{post_of}
 use Rattle.std.specs.List.{range_with_len}
 use Rattle.std.proofs.lemmas.List.FromFn.{get_or-map-range_with_len, length-map-range_with_len}
-use Rattle.std.proofs.lemmas.List.{ext_get_or, get_or-take, get_or_push, length-map}
-use Rattle.algebra.specs.Decided.{Tells}
+use Rattle.std.proofs.lemmas.List.{ext_get_or, get_or-take, get_or_push}
 use Rattle.algebra.specs.Radix.{numeral, digits}
 use Rattle.algebra.specs.Ring.{Agree, integers}
 use Rattle.algebra.specs.Polynomials.{Poly, SameMod, as_word}

@@ -93,10 +93,11 @@ fn test_parts<U: RowUnit>(unit: &mut U, set: ParameterSet, parts: Parts<'_>) -> 
     let fp = &mut fp_room[..n];
     let h = &mut h_room[..n];
     let hq = &mut hq_room[..n];
+    let width = set.bits();
     read_ternary(parts.f.bytes, f);
     read_ternary(parts.fp.bytes, fp);
-    read_balanced(set.bits(), parts.h.bytes, h);
-    read_padded(set.bits(), parts.hq.bytes, hq);
+    read_balanced(width, parts.h.bytes, h);
+    read_padded(width, parts.hq.bytes, hq);
     if !correlates(f) {
         return Err(Refusal::NegativeCorrelation);
     }

@@ -104,9 +104,10 @@ fn write_words(set: ParameterSet, h: &[u16], hq: &[u16], out: &mut [u8])
     requires room { length out.old ≡ 2 * set.word }
     ensures { out.new ≡ word_record set.n set.width (integers_of h.now) ++ word_record set.n set.width (integers_of hq.now) }
 {
+    let width = set.bits();
     let word = set.word;
-    write_all_but_last(set.bits(), h, &mut out[0..word]);
-    write_all_but_last(set.bits(), hq, &mut out[word..]);
+    write_all_but_last(width, h, &mut out[0..word]);
+    write_all_but_last(width, hq, &mut out[word..]);
 }
 
 // Writes a card.

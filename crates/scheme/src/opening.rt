@@ -108,10 +108,11 @@ fn open_parts<U: RowUnit>(
     let r = &mut r_room[..n];
     let c = &mut c_room[..n];
     let hq = &mut hq_room[..n];
+    let width = set.bits();
     read_ternary(parts.f.bytes, f);
     read_ternary(parts.fp.bytes, fp);
-    read_balanced(set.bits(), sealed, c);
-    read_padded(set.bits(), parts.hq.bytes, hq);
+    read_balanced(width, sealed, c);
+    read_padded(width, parts.hq.bytes, hq);
     find_m(unit, set, c, f, fp, m);
     find_r(unit, set, c, m, hq, r)?;
     write_pair(set, r, m, pair);

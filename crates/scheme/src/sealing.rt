@@ -57,10 +57,11 @@ fn seal_pair<U: RowUnit>(unit: &mut U, set: ParameterSet, h: &[u8], coins: &[u8]
     let m = &mut m_room[..n];
     let key = &mut key_room[..n];
     let c = &mut c_room.words[..n];
+    let width = set.bits();
     draw_both(Coins { set, bytes: coins }, r, m);
-    read_balanced(set.bits(), h, key);
+    read_balanced(width, h, key);
     encrypt(unit, set, r, m, key, c);
-    write_all_but_last(set.bits(), c, out);
+    write_all_but_last(width, c, out);
 }
 
 // Seals what the coins, which are only read, draw to the public key of a card.

@@ -18,5 +18,5 @@ returns c =
       | then-low-modulus t ↦ coded_low w c.from.result (omega arith) (omega arith) code t.if-low-modulus.true (ap (λ (a : ℕ). a % 3) t.number-is)
       | else-low-modulus t ↦ coded_high w c.from.result (omega arith) (omega arith) code t.if-low-modulus.false (ap (λ (a : ℕ). a % 3) t.number-is)
     ] in
-    subst (λ (a : ℕ). Differ integers (pos 3) (number c.from_number.result) (centre (2 ^ w) (pos a))) c.from.ensures
-    (M.tr (equal_mod 3 (ap number c.from_number.ensures.digit_of_the_number)) (M.tr (number_digit code) read.1))
+    subst (λ (a : ℕ). Differ integers (pos 3) (number c.from-2.result) (centre (2 ^ w) (pos a))) c.from.ensures
+    (M.tr (equal_mod 3 (ap number c.from-2.ensures)) (M.tr (number_digit code) read.1))

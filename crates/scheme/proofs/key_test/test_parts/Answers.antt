@@ -14,7 +14,7 @@ returns-then-not-is_inverse_modulo_3 g c =
     let p = c.args.parts in
     let few = set.length.1 in
     let table = fp_fails set.n set.width set.length.0 (wide set) p.f.bytes.now p.fp.bytes.now p.h.bytes.now p.hq.bytes.now c.read_ternary.new.out c.read_ternary-2.new.out c.read_balanced.new.out c.read_padded.new.out
-    (in_room _ few) (in_room _ few) (in_room _ few) (in_room _ few) c.read_ternary.ensures.digits c.read_ternary-2.ensures.digits c.read_balanced.ensures.words c.read_padded.ensures.words
+    (in_room _ few) (in_room _ few) (in_room _ few) (in_room _ few) c.read_ternary.ensures.digits c.read_ternary-2.ensures.digits (rw c.bits-width.ensures at c.read_balanced.ensures.words) (rw c.bits-width.ensures at c.read_padded.ensures.words)
     (c.read_ternary.auto.out ∙ in_room _ few) c.correlates.ensures c.if-not-correlates.false c.is_inverse_modulo_3.ensures.answer c.if-not-is_inverse_modulo_3.true in
     record { answer = table.answer_is; count = some_rows set.n (g.U.RowUnit.rows c.args.unit.now) refl c.is_inverse_modulo_3.ensures.count ∙ ap (λ r. raised r (g.U.RowUnit.rows c.args.unit.now)) table.rows_are }
 
@@ -24,7 +24,7 @@ has_key_equation-requires-clause-polynomials g c = let few = c.args.set.length.1
 pub has_key_equation-requires-clause-balanced : goal.has_key_equation-requires-clause-balanced
 has_key_equation-requires-clause-balanced g c =
     let set = c.args.set in
-    subst (λ (k : ℕ). Balanced (2 ^ set.width) k (integers_of c.read_balanced.new.out)) (in_room _ set.length.1) c.read_balanced.ensures.sum_zero
+    subst (λ (k : ℕ). Balanced (2 ^ set.width) k (integers_of c.read_balanced.new.out)) (in_room _ set.length.1) (rw c.bits-width.ensures at c.read_balanced.ensures.sum_zero)
 
 pub returns-then-not-has_key_equation : goal.returns-then-not-has_key_equation
 returns-then-not-has_key_equation g c =
@@ -32,7 +32,7 @@ returns-then-not-has_key_equation g c =
     let p = c.args.parts in
     let few = set.length.1 in
     let table = g_fails set.n set.width set.length.0 (wide set) p.f.bytes.now p.fp.bytes.now p.h.bytes.now p.hq.bytes.now c.read_ternary.new.out c.read_ternary-2.new.out c.read_balanced.new.out c.read_padded.new.out
-    (in_room _ few) (in_room _ few) (in_room _ few) (in_room _ few) c.read_ternary.ensures.digits c.read_ternary-2.ensures.digits c.read_balanced.ensures.words c.read_padded.ensures.words
+    (in_room _ few) (in_room _ few) (in_room _ few) (in_room _ few) c.read_ternary.ensures.digits c.read_ternary-2.ensures.digits (rw c.bits-width.ensures at c.read_balanced.ensures.words) (rw c.bits-width.ensures at c.read_padded.ensures.words)
     (c.read_ternary.auto.out ∙ in_room _ few) c.correlates.ensures c.if-not-correlates.false c.is_inverse_modulo_3.ensures.answer c.if-not-is_inverse_modulo_3.false c.has_key_equation.ensures.answer c.if-not-has_key_equation.true in
     record { answer = table.answer_is; count = two_rows set.n (g.U.RowUnit.rows c.args.unit.now) refl refl c.is_inverse_modulo_3.ensures.count c.has_key_equation.ensures.count ∙ ap (λ r. raised r (g.U.RowUnit.rows c.args.unit.now)) table.rows_are }
 
@@ -42,7 +42,7 @@ returns-then-not-is_inverse_modulo_q g c =
     let p = c.args.parts in
     let few = set.length.1 in
     let table = hq_fails set.n set.width set.length.0 (wide set) p.f.bytes.now p.fp.bytes.now p.h.bytes.now p.hq.bytes.now c.read_ternary.new.out c.read_ternary-2.new.out c.read_balanced.new.out c.read_padded.new.out
-    (in_room _ few) (in_room _ few) (in_room _ few) (in_room _ few) c.read_ternary.ensures.digits c.read_ternary-2.ensures.digits c.read_balanced.ensures.words c.read_padded.ensures.words
+    (in_room _ few) (in_room _ few) (in_room _ few) (in_room _ few) c.read_ternary.ensures.digits c.read_ternary-2.ensures.digits (rw c.bits-width.ensures at c.read_balanced.ensures.words) (rw c.bits-width.ensures at c.read_padded.ensures.words)
     (c.read_ternary.auto.out ∙ in_room _ few) c.correlates.ensures c.if-not-correlates.false c.is_inverse_modulo_3.ensures.answer c.if-not-is_inverse_modulo_3.false c.has_key_equation.ensures.answer c.if-not-has_key_equation.false c.is_inverse_modulo_q.ensures.answer c.if-not-is_inverse_modulo_q.true in
     record { answer = table.answer_is; count = three_rows set.n (g.U.RowUnit.rows c.args.unit.now) refl refl refl c.is_inverse_modulo_3.ensures.count c.has_key_equation.ensures.count c.is_inverse_modulo_q.ensures.count ∙ ap (λ r. raised r (g.U.RowUnit.rows c.args.unit.now)) table.rows_are }
 
@@ -52,6 +52,6 @@ returns g c =
     let p = c.args.parts in
     let few = set.length.1 in
     let table = passes set.n set.width set.length.0 (wide set) p.f.bytes.now p.fp.bytes.now p.h.bytes.now p.hq.bytes.now c.read_ternary.new.out c.read_ternary-2.new.out c.read_balanced.new.out c.read_padded.new.out
-    (in_room _ few) (in_room _ few) (in_room _ few) (in_room _ few) c.read_ternary.ensures.digits c.read_ternary-2.ensures.digits c.read_balanced.ensures.words c.read_padded.ensures.words
+    (in_room _ few) (in_room _ few) (in_room _ few) (in_room _ few) c.read_ternary.ensures.digits c.read_ternary-2.ensures.digits (rw c.bits-width.ensures at c.read_balanced.ensures.words) (rw c.bits-width.ensures at c.read_padded.ensures.words)
     (c.read_ternary.auto.out ∙ in_room _ few) c.correlates.ensures c.if-not-correlates.false c.is_inverse_modulo_3.ensures.answer c.if-not-is_inverse_modulo_3.false c.has_key_equation.ensures.answer c.if-not-has_key_equation.false c.is_inverse_modulo_q.ensures.answer c.if-not-is_inverse_modulo_q.false in
     record { answer = table.answer_is; count = three_rows set.n (g.U.RowUnit.rows c.args.unit.now) refl refl refl c.is_inverse_modulo_3.ensures.count c.has_key_equation.ensures.count c.is_inverse_modulo_q.ensures.count ∙ ap (λ r. raised r (g.U.RowUnit.rows c.args.unit.now)) table.rows_are }

@@ -15,14 +15,14 @@ returns-in_err-ok_or c =
     let none = ok_or_none c.inverse_mod_phi-degree.result NotInvertible (sym c.ok_or.ensures.value ∙ c.in_err-ok_or.was) in
     let over = c.inverse_mod_phi-degree.ensures.over_the_integers 3 digit_number (digits_stand (lit< tt)) in
     let no : NoInverseMod 3 n (coefficients f) × (c.in_err-ok_or.field-0.0 ≡ NotInvertible) =
-    (three_absent n _ _ _ _ _ f c.inverse_mod_phi-degree.new.res c.inverse_mod_phi-degree.result refl (search rules) (search rules, search rules, search rules, search rules, search rules, search rules) (ap is_some none.0) over, none.1) in
+    (three_absent n _ _ _ _ _ f c.inverse_mod_phi-degree.new.inverse c.inverse_mod_phi-degree.result refl (search rules) (search rules, search rules, search rules, search rules, search rules, search rules) (ap is_some none.0) over, none.1) in
     search rules
 
 pub returns : goal.returns
 returns c =
     let f = c.args.f.now in
     let n = length f in
-    let u = c.inverse_mod_phi-degree.new.res in
+    let u = c.inverse_mod_phi-degree.new.inverse in
     let some = ap is_some (ok_or_some c.inverse_mod_phi-degree.result NotInvertible (sym c.ok_or.ensures.value ∙ c.in_ok-ok_or.was)) in
     let over = c.inverse_mod_phi-degree.ensures.over_the_integers 3 digit_number (digits_stand (lit< tt)) in
     (three_found n _ _ _ _ _ f u c.inverse_mod_phi-degree.result refl (search rules) some over, three_reduced n _ _ _ _ _ f u c.inverse_mod_phi-degree.result refl (search rules) (omega arith) some c.inverse_mod_phi-degree.ensures.none_exactly_when_none_serves)

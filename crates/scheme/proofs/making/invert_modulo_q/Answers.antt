@@ -11,7 +11,7 @@ pub returns-in_err-ok_or-clause-inverse : goal.returns-in_err-ok_or-clause-inver
 returns-in_err-ok_or-clause-inverse g c =
     let set = c.args.set in
     let none = ok_or_none c.inverse_of_words.result NotInvertible (sym c.ok_or.ensures.value ∙ c.in_err-ok_or.was) in
-    let absent = words_absent set.width c.signed_words.new.out c.args.fq.now c.inverse_of_words.new.res _ _ c.inverse_of_words.result (ap is_some none.0)
+    let absent = words_absent set.width c.signed_words.new.out c.args.fq.now c.inverse_of_words.new.inverse _ _ c.inverse_of_words.result (ap is_some none.0)
     (record { some = omega (arith, wide set); narrow = set.narrow; long = search rules; few = search rules; room = search rules }) c.inverse_of_words.ensures.none_exactly_when_none_serves in
     let no : NoInverseMod 2 set.n (coefficients c.args.f.now) × (c.in_err-ok_or.field-0.0 ≡ NotInvertible) =
     (none_modulo_2 set.width set.n c.args.f.now c.signed_words.new.out (omega (arith, wide set)) set.narrow c.requires.0 (search rules) c.signed_words.ensures absent.0, none.1) in
@@ -21,5 +21,5 @@ pub returns-clause-inverse : goal.returns-clause-inverse
 returns-clause-inverse g c =
     let set = c.args.set in
     let some = ok_or_some c.inverse_of_words.result NotInvertible (sym c.ok_or.ensures.value ∙ c.in_ok-ok_or.was) in
-    let found = words_found set.width c.signed_words.new.out c.args.fq.now c.inverse_of_words.new.res _ _ c.inverse_of_words.result (ap is_some some) c.inverse_of_words.ensures.none_exactly_when_none_serves in
-    inverse_of_digits set.width set.n c.args.f.now c.signed_words.new.out c.inverse_of_words.new.res set.narrow c.requires.0 (search rules) c.signed_words.ensures found.1
+    let found = words_found set.width c.signed_words.new.out c.args.fq.now c.inverse_of_words.new.inverse _ _ c.inverse_of_words.result (ap is_some some) c.inverse_of_words.ensures.none_exactly_when_none_serves in
+    inverse_of_digits set.width set.n c.args.f.now c.signed_words.new.out c.inverse_of_words.new.inverse set.narrow c.requires.0 (search rules) c.signed_words.ensures found.1

@@ -25,10 +25,10 @@ returns-in_err-ok_or-clause-made g c =
     let h = c.make_public.new.h in
     let lh = c.make_public.auto.h ∙ in_room _ few in
     let none = ok_or_none c.inverse_of_words.result NotInvertible (sym c.ok_or.ensures.value ∙ c.in_err-ok_or.was) in
-    let absent = words_absent set.width h _ c.inverse_of_words.new.res _ _ c.inverse_of_words.result (ap is_some none.0)
+    let absent = words_absent set.width h _ c.inverse_of_words.new.inverse _ _ c.inverse_of_words.result (ap is_some none.0)
     (record { some = omega (arith, wide set); narrow = set.narrow; long = omega (arith, lh, set.length); few = omega (arith, lh, set.length); room = in_room _ few ∙ sym lh }) c.inverse_of_words.ensures.none_exactly_when_none_serves in
     handed_on _ _ c.from_residual-in_err-ok_or.result c.in_err-ok_or.field-0.0 c.from_residual-in_err-ok_or.ensures (
-      none_key set.n set.width c.args.coins.now c.draw_settled.new.first c.draw_settled.new.second c.draw_settled.ensures.first c.draw_settled.ensures.second h c.inverse_of_words.new.res c.in_ok-make_public.ensures.made lh absent.0,
+      none_key set.n set.width c.args.coins.now c.draw_settled.new.first c.draw_settled.new.second c.draw_settled.ensures.first c.draw_settled.ensures.second h c.inverse_of_words.new.inverse c.in_ok-make_public.ensures.made lh absent.0,
       (refl, none.1),
     )
 
@@ -42,12 +42,12 @@ returns-clause-made g c =
     let h = c.make_public.new.h in
     let said = c.in_ok-invert_modulo_3.ensures in
     let some = ok_or_some c.inverse_of_words.result NotInvertible (sym c.ok_or.ensures.value ∙ c.in_ok-ok_or.was) in
-    let found = words_found set.width h _ c.inverse_of_words.new.res _ _ c.inverse_of_words.result (ap is_some some) c.inverse_of_words.ensures.none_exactly_when_none_serves in
-    card_made set.n set.width c.args.coins.now c.draw_settled.new.first c.draw_settled.new.second c.draw_settled.ensures.first c.draw_settled.ensures.second h c.inverse_of_words.new.res c.in_ok-make_public.ensures.made
+    let found = words_found set.width h _ c.inverse_of_words.new.inverse _ _ c.inverse_of_words.result (ap is_some some) c.inverse_of_words.ensures.none_exactly_when_none_serves in
+    card_made set.n set.width c.args.coins.now c.draw_settled.new.first c.draw_settled.new.second c.draw_settled.ensures.first c.draw_settled.ensures.second h c.inverse_of_words.new.inverse c.in_ok-make_public.ensures.made
     (c.make_public.auto.h ∙ in_room _ few) c.invert_modulo_3.new.fp (c.draw_settled.auto.first ∙ in_room _ few) said.0 said.1 found.1 c.write_card.new.out c.write_card.ensures
 
 pub returns-clause-count : goal.returns-clause-count
 returns-clause-count g c =
     let some = ok_or_some c.inverse_of_words.result NotInvertible (sym c.ok_or.ensures.value ∙ c.in_ok-ok_or.was) in
-    let found = words_found c.args.set.width c.make_public.new.h _ c.inverse_of_words.new.res _ _ c.inverse_of_words.result (ap is_some some) c.inverse_of_words.ensures.none_exactly_when_none_serves in
+    let found = words_found c.args.set.width c.make_public.new.h _ c.inverse_of_words.new.inverse _ _ c.inverse_of_words.result (ap is_some some) c.inverse_of_words.ensures.none_exactly_when_none_serves in
     omega (arith, found.2, c.make_public.ensures.count, g.met.U.RowUnit.top c.make_public.new.unit)

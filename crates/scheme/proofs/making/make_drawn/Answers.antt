@@ -10,7 +10,7 @@ use Rattle.scheme.proofs.making.make_drawn.Goals as goal
 pub returns : goal.returns
 returns g c =
     let set = c.in_ok-set.set in
-    let found = c.in_ok-set.ensures.set_or_refusal in
+    let found = c.in_ok-set.ensures in
     let N = length_of c.args.set in
     let W = width_of c.args.set in
     let coins = c.args.coins.now in

@@ -10,7 +10,7 @@ use Rattle.scheme.proofs.opening.open_card.Goals as goal
 pub returns-then-card-set : goal.returns-then-card-set
 returns-then-card-set g c =
     let set = c.in_ok-set.set in
-    let found = c.in_ok-set.ensures.set_or_refusal in
+    let found = c.in_ok-set.ensures in
     let N = length_of c.args.set in
     let W = width_of c.args.set in
     let card = c.args.card.now in
@@ -26,7 +26,7 @@ returns-then-card-set g c =
 pub returns-then-pair-set : goal.returns-then-pair-set
 returns-then-pair-set g c =
     let set = c.in_ok-set.set in
-    let found = c.in_ok-set.ensures.set_or_refusal in
+    let found = c.in_ok-set.ensures in
     let N = length_of c.args.set in
     let W = width_of c.args.set in
     let card = c.args.card.now in
@@ -39,7 +39,7 @@ returns-then-pair-set g c =
 pub returns-then-not-all_hold_digits : goal.returns-then-not-all_hold_digits
 returns-then-not-all_hold_digits g c =
     let set = c.in_ok-set.set in
-    let found = c.in_ok-set.ensures.set_or_refusal in
+    let found = c.in_ok-set.ensures in
     let N = length_of c.args.set in
     let W = width_of c.args.set in
     let card = c.args.card.now in
@@ -65,7 +65,7 @@ open_parts-requires g c =
 pub returns : goal.returns
 returns g c =
     let set = c.in_ok-set.set in
-    let found = c.in_ok-set.ensures.set_or_refusal in
+    let found = c.in_ok-set.ensures in
     let N = length_of c.args.set in
     let W = width_of c.args.set in
     let card = c.args.card.now in

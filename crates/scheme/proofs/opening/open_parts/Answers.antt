@@ -28,7 +28,7 @@ returns-in_err-find_r-clause-opened g c =
     handed_on _ _ c.from_residual.result c.in_err-find_r.field-0.0 c.from_residual.ensures (
       none_opened n w p.f.bytes.now p.fp.bytes.now p.hq.bytes.now c.args.sealed.now c.read_ternary.new.out c.read_ternary-2.new.out c.find_m.new.m c.read_balanced.new.out c.read_padded.new.out
           (omega (arith, set.length)) (in_room _ few) (in_room _ few) (in_room _ few) (in_room _ few)
-          c.read_ternary.ensures.digits c.read_ternary-2.ensures.digits c.read_balanced.ensures.words c.read_padded.ensures.words c.find_m.ensures.message said.0,
+          c.read_ternary.ensures.digits c.read_ternary-2.ensures.digits (rw c.bits-width.ensures at c.read_balanced.ensures.words) (rw c.bits-width.ensures at c.read_padded.ensures.words) c.find_m.ensures.message said.0,
       said.1,
       refl,
     )
@@ -44,5 +44,5 @@ returns-clause-opened g c =
     let said = c.in_ok-find_r.ensures.factor in
     pair_opened set.n set.width p.f.bytes.now p.fp.bytes.now p.hq.bytes.now c.args.sealed.now c.read_ternary.new.out c.read_ternary-2.new.out c.find_m.new.m c.read_balanced.new.out c.read_padded.new.out
     (omega (arith, set.length)) (in_room _ few) (in_room _ few) (in_room _ few) (in_room _ few)
-    c.read_ternary.ensures.digits c.read_ternary-2.ensures.digits c.read_balanced.ensures.words c.read_padded.ensures.words c.find_m.ensures.message
+    c.read_ternary.ensures.digits c.read_ternary-2.ensures.digits (rw c.bits-width.ensures at c.read_balanced.ensures.words) (rw c.bits-width.ensures at c.read_padded.ensures.words) c.find_m.ensures.message
     c.find_r.new.r said.0 said.1 c.write_pair.new.pair c.write_pair.ensures

@@ -1,11 +1,7 @@
-use Rattle.std.proofs.Common.{◌∙◌, arith}
+use Rattle.std.proofs.Common.{◌∙◌}
 use Rattle.scheme.proofs.Records.{sealed_bytes}
 use Rattle.scheme.proofs.Rooms.{in_room, in_zeros}
-use Rattle.scheme.proofs.SetFacts.{wide}
 use Rattle.scheme.proofs.sealing.seal_pair.Goals as goal
-
-pub read_balanced-requires-clause-width : goal.read_balanced-requires-clause-width
-read_balanced-requires-clause-width g c = let set = c.args.set in (omega (arith, wide set), set.narrow)
 
 pub encrypt-requires-clause-digits : goal.encrypt-requires-clause-digits
 encrypt-requires-clause-digits g c = let few = c.args.set.length.1 in (c.draw_both.auto.first ∙ in_room _ few, c.draw_both.auto.second ∙ in_room _ few)
@@ -15,4 +11,4 @@ returns-clause-output g c =
     let set = c.args.set in
     sealed_bytes set.n set.width c.args.coins.now c.args.h.now c.read_balanced.new.out c.encrypt.new.c c.write_all_but_last.new.out c.draw_both.new.first c.draw_both.new.second
     set.narrow (c.encrypt.auto.c ∙ in_zeros _ c.new-c_room.ensures.zeros set.length.1) (in_room _ set.length.1)
-    c.draw_both.ensures.first c.draw_both.ensures.second c.read_balanced.ensures.words c.encrypt.ensures.ciphertext c.write_all_but_last.ensures.output
+    c.draw_both.ensures.first c.draw_both.ensures.second (rw c.bits-width.ensures at c.read_balanced.ensures.words) c.encrypt.ensures.ciphertext (rw c.bits-width.ensures at c.write_all_but_last.ensures.output)

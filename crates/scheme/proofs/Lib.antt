@@ -11,7 +11,6 @@ mod StepAnswers
 mod Testing
 mod Records
 mod ReadBack
-mod Rooms
 mod RowCounts
 mod SetFacts
 mod Verdicts

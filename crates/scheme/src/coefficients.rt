@@ -7,7 +7,8 @@ ghost use Rattle.arithmetic.specs.Digits.{coefficients, digit, number};
 ghost use Rattle.arithmetic.specs.Products.{integers_of};
 ghost use Rattle.scheme.specs.Readings.{SignsRead};
 
-use arithmetic::{Digit, Ring, subtract_last};
+use crate::set::ParameterSet;
+use arithmetic::{Digit, convert, subtract_last};
 
 // Each digit as a word: 0, 1, and 65535 for -1.
 pub(crate) fn signed_words(digits: &[Digit], out: &mut [u16])
@@ -20,22 +21,11 @@ pub(crate) fn signed_words(digits: &[Digit], out: &mut [u16])
     }
 }
 
-// Each digit by its code: 0, 1, and 2 for -1.
-pub(crate) fn code_words(digits: &[Digit], out: &mut [u16])
-    requires { length out.old ≡ length digits.now }
-    ensures { (k : ℕ) → k < length digits.now → slice_index out.new k ≡ (get_or digits.now k (digit 0)).code }
+// A word centred modulo q, and of that the remainder modulo 3.
+fn centre_digit(set: ParameterSet, word: u16) -> Digit
+    ensures { Differ integers (pos 3) (number result) (centre (2 ^ set.width) (pos word)) }
 {
-    for (i, digit) in digits.iter().enumerate() {
-        out[i] = u16::from(digit.code());
-    }
-}
-
-// A word centred modulo 2^width, and of that the remainder modulo 3.
-fn centre_digit(width: u32, word: u16) -> Digit
-    requires { (1 ≤ width) × (width ≤ 16) }
-    ensures { Differ integers (pos 3) (number result) (centre (2 ^ width) (pos word)) }
-{
-    let modulus = 1u32 << width;
+    let modulus = 1u32 << set.width;
     let low = u32::from(word) & (modulus - 1);
     // From half the modulus on, low - modulus is meant, and that is low + 2 * modulus modulo 3.
     let number = if low < modulus / 2 {
@@ -46,24 +36,13 @@ fn centre_digit(width: u32, word: u16) -> Digit
     Digit::from((number % 3) as u16)
 }
 
-// Each word centred modulo 2^width, and of that the remainder modulo 3.
-pub(crate) fn centre_digits(width: u32, words: &[u16], out: &mut [Digit])
-    requires width { (1 ≤ width) × (width ≤ 16) }
-    requires room { length out.old ≡ length words.now }
-    ensures centred { SameMod 3 (length words.now) (coefficients out.new) (λ k. centre (2 ^ width) (integers_of words.now k)) }
-{
-    for (i, word) in words.iter().enumerate() {
-        out[i] = centre_digit(width, *word);
-    }
-}
-
-// Each word modulo 3.
-fn take_digits(words: &[u16], out: &mut [Digit])
+// Each word centred modulo q, and of that the remainder modulo 3.
+pub(crate) fn centre_digits(set: ParameterSet, words: &[u16], out: &mut [Digit])
     requires { length out.old ≡ length words.now }
-    ensures { (k : ℕ) → k < length words.now → slice_index_or out.new k (digit 0) ≡ digit (slice_index words.now k) }
+    ensures { SameMod 3 (length words.now) (coefficients out.new) (λ k. centre (2 ^ set.width) (integers_of words.now k)) }
 {
     for (i, word) in words.iter().enumerate() {
-        out[i] = Digit::from(*word);
+        out[i] = centre_digit(set, *word);
     }
 }
 
@@ -73,16 +52,15 @@ pub(crate) fn reduce_modulo_3(words: &[u16], out: &mut [Digit])
     requires room { length out.old ≡ length words.now }
     ensures { Agree integers (length words.now) (coefficients out.new) (λ k. centre 3 (reduce integers (length words.now) (integers_of words.now) k)) }
 {
-    take_digits(words, out);
+    convert(words, out);
     subtract_last(out);
 }
 
-// A word modulo 2^width, where that is -1, 0 or 1.
-fn read_sign(width: u32, word: u16) -> Option<Digit>
-    requires { (2 ≤ width) × (width ≤ 16) }
-    ensures { MatchOption result (unsigned_abs (centre (2 ^ width) (pos word)) ≤ 1 → ⊥) (λ d. number d ≡ centre (2 ^ width) (pos word)) }
+// A word modulo q, where that is -1, 0 or 1.
+fn read_sign(set: ParameterSet, word: u16) -> Option<Digit>
+    ensures { MatchOption result (unsigned_abs (centre (2 ^ set.width) (pos word)) ≤ 1 → ⊥) (λ d. number d ≡ centre (2 ^ set.width) (pos word)) }
 {
-    let mask = (1u32 << width) - 1;
+    let mask = (1u32 << set.width) - 1;
     let low = u32::from(word) & mask;
     match low {
         0 => Some(Digit::ZERO),
@@ -92,27 +70,25 @@ fn read_sign(width: u32, word: u16) -> Option<Digit>
     }
 }
 
-// Reads each word modulo 2^width as -1, 0 or 1, where all are such. Where one is not, part of `out` may be written.
-pub(crate) fn read_signs(width: u32, words: &[u16], out: &mut [Digit]) -> Option<()>
-    requires width { (2 ≤ width) × (width ≤ 16) }
-    requires room { length out.old ≡ length words.now }
-    ensures { SignsRead (length words.now) width (integers_of words.now) result out.new }
+// Reads each word modulo q as -1, 0 or 1, where all are such. Where one is not, part of `out` may be written.
+pub(crate) fn read_signs(set: ParameterSet, words: &[u16], out: &mut [Digit]) -> Option<()>
+    requires { length out.old ≡ length words.now }
+    ensures { SignsRead (length words.now) set.width (integers_of words.now) result out.new }
 {
     for (i, word) in words.iter().enumerate() {
-        out[i] = read_sign(width, *word)?;
+        out[i] = read_sign(set, *word)?;
     }
     Some(())
 }
 
-// Takes the last word from all, and reads what is left as digits: the polynomial reduced modulo (2^width, 1 + x + .. + x^(n - 1)) and centred.
-pub(crate) fn read_reduced(width: u32, words: &mut [u16], out: &mut [Digit]) -> Option<()>
-    requires width { (2 ≤ width) × (width ≤ 16) }
+// Takes the last word from all, and reads what is left as digits: the polynomial reduced modulo (q, 1 + x + .. + x^(n - 1)) and centred.
+pub(crate) fn read_reduced(set: ParameterSet, words: &mut [u16], out: &mut [Digit]) -> Option<()>
     requires some { 1 ≤ length words.old }
     requires room { length out.old ≡ length words.old }
-    ensures { SignsRead (length words.old) width (reduce integers (length words.old) (integers_of words.old)) result out.new }
+    ensures { SignsRead (length words.old) set.width (reduce integers (length words.old) (integers_of words.old)) result out.new }
 {
     subtract_last(words);
-    read_signs(width, words, out)
+    read_signs(set, words, out)
 }
 
 // Whether the digits are those of the polynomial 1.

@@ -58,7 +58,7 @@ fn has_key_equation<U: RowUnit>(unit: &mut U, set: ParameterSet, h: &[u16], f: &
     let g = &mut g_room[..n];
     times_digits(unit, set, h, f, hf);
     divide_by_3_phi1(hf);
-    read_signs(set.width, hf, g).is_some() && correlates(g)
+    read_signs(set, hf, g).is_some() && correlates(g)
 }
 
 // Whether h hq is 1 modulo 2^width and 1 + x + .. + x^(n - 1).
@@ -73,7 +73,7 @@ fn is_inverse_modulo_q<U: RowUnit>(unit: &mut U, set: ParameterSet, h: &[u16], h
     let h_hq = &mut product_room.words[..n];
     let digits = &mut digits_room[..n];
     product(unit, set, h, hq, h_hq);
-    read_reduced(set.width, h_hq, digits).is_some() && is_one(digits)
+    read_reduced(set, h_hq, digits).is_some() && is_one(digits)
 }
 
 // Tests the polynomials of the parts of a card.

@@ -18,14 +18,13 @@ use crate::set::ParameterSet;
 use crate::ternary_polynomial::write_pair;
 use arithmetic::{Digit, Room, RowUnit, inverse_mod_phi, inverse_of_words};
 
-// Three times each word, modulo 2^width.
-fn triple(width: u32, words: &[u16], out: &mut [u16])
-    requires width { (1 ≤ width) × (width ≤ 16) }
-    requires room { length out.old ≡ length words.now }
-    ensures small { Under (2 ^ width) out.new }
-    ensures tripled { SameMod (2 ^ width) (length words.now) (integers_of out.new) (scale (pos 3) (integers_of words.now)) }
+// Three times each word, modulo q.
+fn triple(set: ParameterSet, words: &[u16], out: &mut [u16])
+    requires { length out.old ≡ length words.now }
+    ensures small { Under (2 ^ set.width) out.new }
+    ensures tripled { SameMod (2 ^ set.width) (length words.now) (integers_of out.new) (scale (pos 3) (integers_of words.now)) }
 {
-    let mask = (1u32 << width) - 1;
+    let mask = (1u32 << set.width) - 1;
     for (i, word) in words.iter().enumerate() {
         out[i] = (3 * u32::from(*word) & mask) as u16;
     }
@@ -94,7 +93,7 @@ fn make_public<U: RowUnit>(
     invert_modulo_q(unit, set, f, fq)?;
     digits_times(unit, set, g, fq, g_fq);
     phi1_times(set, g_fq, turned);
-    triple(set.width, turned, h);
+    triple(set, turned, h);
     Ok(())
 }
 

@@ -48,7 +48,7 @@ fn find_m<U: RowUnit>(
     let cf = &mut cf_room.words[..n];
     let a = &mut a_room[..n];
     times_digits(unit, set, c, f, cf);
-    centre_digits(set.width, cf, a);
+    centre_digits(set, cf, a);
     product_modulo_3(unit, set, a, fp, m);
 }
 
@@ -77,7 +77,7 @@ fn find_r<U: RowUnit>(
     lift(set, m, lifted);
     subtract_words(c, lifted);
     product(unit, set, c, hq, b_hq);
-    read_reduced(set.width, b_hq, r).ok_or(Refusal::NoPair)
+    read_reduced(set, b_hq, r).ok_or(Refusal::NoPair)
 }
 
 // Opens a sealed record under the parts of a card. Where there is no pair, `pair` stays as it was.

@@ -8,10 +8,10 @@ ghost use Rattle.arithmetic.specs.Digits.{coefficients};
 ghost use Rattle.arithmetic.specs.Products.{cyclic_product, integers_of};
 ghost use Rattle.arithmetic.specs.Rows.{raised};
 
-use crate::coefficients::{code_words, reduce_modulo_3, signed_words};
+use crate::coefficients::{reduce_modulo_3, signed_words};
 use crate::polynomial::LONGEST;
 use crate::set::ParameterSet;
-use arithmetic::{Digit, Room, RowUnit, multiply, times_phi1};
+use arithmetic::{Digit, Room, RowUnit, convert, multiply, times_phi1};
 
 // The product of u and v, modulo 65536.
 pub(crate) fn product<U: RowUnit>(
@@ -91,8 +91,8 @@ pub(crate) fn product_modulo_3<U: RowUnit>(
     let a_words = &mut a_room[..n];
     let b_words = &mut b_room[..n];
     let ab = &mut ab_room.words[..n];
-    code_words(a, a_words);
-    code_words(b, b_words);
+    convert(a, a_words);
+    convert(b, b_words);
     product(unit, set, a_words, b_words, ab);
     reduce_modulo_3(ab, out);
 }

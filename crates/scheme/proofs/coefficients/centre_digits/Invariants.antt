@@ -5,4 +5,4 @@ use Rattle.arithmetic.specs.Digits.{coefficients}
 use Rattle.scheme.proofs.coefficients.centre_digits.Given as goal
 
 abbrev pub invariant-loop-i : goal.invariant-loop-i
-invariant-loop-i l = (k : ℕ) → k < l.i → Differ integers (pos 3) (coefficients l.out k) (centre (2 ^ l.width) (pos (get_or l.words k 0)))
+invariant-loop-i l = (k : ℕ) → k < l.i → Differ integers (pos 3) (coefficients l.out k) (centre (2 ^ l.set.width) (pos (get_or l.words k 0)))

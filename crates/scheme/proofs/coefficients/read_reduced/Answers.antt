@@ -11,7 +11,7 @@ use Rattle.scheme.proofs.coefficients.read_reduced.Goals as goal
 
 pub returns : goal.returns
 returns c =
-    let w = c.args.width in
+    let w = c.args.set.width in
     let xs = c.args.words.now in
     let ys = c.subtract_last.new.v in
     let n = length xs in

@@ -4,4 +4,4 @@ use Rattle.arithmetic.specs.Digits.{coefficients}
 use Rattle.scheme.proofs.coefficients.read_signs.Given as goal
 
 abbrev pub invariant-loop-i : goal.invariant-loop-i
-invariant-loop-i l = (k : ℕ) → k < l.i → coefficients l.out k ≡ centre (2 ^ l.width) (pos (get_or l.words k 0))
+invariant-loop-i l = (k : ℕ) → k < l.i → coefficients l.out k ≡ centre (2 ^ l.set.width) (pos (get_or l.words k 0))

@@ -1,5 +1,5 @@
 use Rattle.std.proofs.Common.{sym, ◌∙◌}
-use Rattle.scheme.proofs.Rooms.{in_room, in_zeros}
+use Rattle.arithmetic.proofs.Rooms.{in_room, in_zeros}
 use Rattle.scheme.proofs.Working.{g_refused, g_told}
 use Rattle.scheme.proofs.key_test.has_key_equation.Goals as goal
 

@@ -1,5 +1,5 @@
 use Rattle.std.proofs.Common.{◌∙◌}
-use Rattle.scheme.proofs.Rooms.{in_room}
+use Rattle.arithmetic.proofs.Rooms.{in_room}
 use Rattle.scheme.proofs.Working.{three_told}
 use Rattle.scheme.proofs.key_test.is_inverse_modulo_3.Goals as goal
 

@@ -1,5 +1,5 @@
 use Rattle.std.proofs.Common.{sym, ◌∙◌}
-use Rattle.scheme.proofs.Rooms.{in_room, in_zeros}
+use Rattle.arithmetic.proofs.Rooms.{in_room, in_zeros}
 use Rattle.scheme.proofs.SetFacts.{wide}
 use Rattle.scheme.proofs.Working.{q_refused, q_told}
 use Rattle.scheme.proofs.key_test.is_inverse_modulo_q.Goals as goal

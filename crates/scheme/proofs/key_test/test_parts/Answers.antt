@@ -2,7 +2,7 @@ use Rattle.std.proofs.Common.{ℕ, ◌^◌, refl, ap, ◌∙◌, subst}
 use Rattle.algebra.specs.Polynomials.{Balanced}
 use Rattle.arithmetic.specs.Products.{integers_of}
 use Rattle.arithmetic.specs.Rows.{raised}
-use Rattle.scheme.proofs.Rooms.{in_room}
+use Rattle.arithmetic.proofs.Rooms.{in_room}
 use Rattle.scheme.proofs.RowCounts.{some_rows, two_rows, three_rows}
 use Rattle.scheme.proofs.SetFacts.{wide}
 use Rattle.scheme.proofs.Testing.{fp_fails, g_fails, hq_fails, passes}

@@ -1,5 +1,5 @@
 use Rattle.std.proofs.Common.{◌∙◌}
-use Rattle.scheme.proofs.Rooms.{in_room}
+use Rattle.arithmetic.proofs.Rooms.{in_room}
 use Rattle.scheme.proofs.Working.{lift_is}
 use Rattle.scheme.proofs.lifting.lift.Goals as goal
 

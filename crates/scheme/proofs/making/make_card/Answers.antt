@@ -2,7 +2,7 @@ use Rattle.std.proofs.Common.{is_some, sym, refl, ap, ◌∙◌, arith}
 use Rattle.scheme.specs.declared.refusal.Refusal.TheVariants.{NotInvertible}
 use Rattle.scheme.proofs.Makings.{words_found, words_absent, none_three, none_key, card_made}
 use Rattle.scheme.proofs.OkOr.{handed_on, ok_or_none, ok_or_some}
-use Rattle.scheme.proofs.Rooms.{in_room}
+use Rattle.arithmetic.proofs.Rooms.{in_room}
 use Rattle.scheme.proofs.SetFacts.{wide}
 use Rattle.scheme.proofs.making.make_card.Goals as goal
 

@@ -1,6 +1,6 @@
 use Rattle.std.proofs.Common.{◌∙◌}
 use Rattle.scheme.proofs.Makings.{published}
-use Rattle.scheme.proofs.Rooms.{in_room}
+use Rattle.arithmetic.proofs.Rooms.{in_room}
 use Rattle.scheme.proofs.making.make_public.Goals as goal
 
 pub returns-clause-made : goal.returns-clause-made

@@ -6,13 +6,13 @@ use Rattle.scheme.proofs.making.triple.Goals as goal
 pub loop-i-preserved : goal.loop-i-preserved
 loop-i-preserved c =
     let s = c.loop-i in
-    let w = c.args.width in
+    let w = c.args.set.width in
     let xs = c.args.words.now in
     filled_more (λ k y. y ≡ 3 * get_or xs k 0 % 2 ^ w) 0 s.out s.i _ (omega arith)
-    (masked w (3 * c.from.result) (omega arith) ∙ ap (λ (a : ℕ). 3 * a % 2 ^ w) c.from.ensures) s.invariant
+    (masked w (3 * c.from.result) (omega (arith, c.args.set.narrow)) ∙ ap (λ (a : ℕ). 3 * a % 2 ^ w) c.from.ensures) s.invariant
 
 pub returns : goal.returns
 returns c =
     let s = c.loop-i in
-    let both = scaled (2 ^ c.args.width) 3 c.args.words.now s.out (pow_pos c.args.width) (omega arith) (λ k l. s.invariant k (omega arith)) in
+    let both = scaled (2 ^ c.args.set.width) 3 c.args.words.now s.out (pow_pos c.args.set.width) (omega arith) (λ k l. s.invariant k (omega arith)) in
     record { small = both.0; tripled = both.1 }

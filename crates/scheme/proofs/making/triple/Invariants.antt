@@ -2,4 +2,4 @@ use Rattle.std.proofs.Common.{◌≡◌, ℕ, ◌*◌, ◌%◌, ◌^◌, ◌<◌
 use Rattle.scheme.proofs.making.triple.Given as goal
 
 abbrev pub invariant-loop-i : goal.invariant-loop-i
-invariant-loop-i l = (k : ℕ) → k < l.i → get_or l.out k 0 ≡ 3 * get_or l.words k 0 % 2 ^ l.width
+invariant-loop-i l = (k : ℕ) → k < l.i → get_or l.out k 0 ≡ 3 * get_or l.words k 0 % 2 ^ l.fn.set.width

@@ -1,7 +1,7 @@
 use Rattle.std.proofs.Common.{◌∙◌}
 use Rattle.scheme.specs.declared.refusal.Refusal.TheVariants.{NoPair}
 use Rattle.scheme.proofs.OkOr.{ok_or_cases}
-use Rattle.scheme.proofs.Rooms.{in_zeros}
+use Rattle.arithmetic.proofs.Rooms.{in_zeros}
 use Rattle.scheme.proofs.Working.{r_found}
 use Rattle.scheme.proofs.opening.find_r.Goals as goal
 

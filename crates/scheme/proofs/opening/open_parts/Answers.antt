@@ -3,7 +3,7 @@ use Rattle.algebra.specs.Ternary.{Ternary}
 use Rattle.arithmetic.specs.Digits.{coefficients}
 use Rattle.scheme.proofs.OkOr.{handed_on}
 use Rattle.scheme.proofs.Records.{none_opened, pair_opened}
-use Rattle.scheme.proofs.Rooms.{in_room}
+use Rattle.arithmetic.proofs.Rooms.{in_room}
 use Rattle.scheme.proofs.opening.open_parts.Goals as goal
 
 pub find_m-requires-clause-polynomials : goal.find_m-requires-clause-polynomials

@@ -1,6 +1,6 @@
 use Rattle.std.proofs.Common.{◌∙◌}
 use Rattle.scheme.proofs.Records.{sealed_bytes}
-use Rattle.scheme.proofs.Rooms.{in_room, in_zeros}
+use Rattle.arithmetic.proofs.Rooms.{in_room, in_zeros}
 use Rattle.scheme.proofs.sealing.seal_pair.Goals as goal
 
 pub encrypt-requires-clause-digits : goal.encrypt-requires-clause-digits

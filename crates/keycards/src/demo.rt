@@ -50,9 +50,8 @@ fn pair(rt: &HostRuntime) -> Result<(), Trouble> {
 fn refusals(rt: &HostRuntime) -> Result<(), Trouble> {
     let mut record = [0u8; 2];
     let mut coins = [0x01u8, 0x04, 0x10];
-    match Job::begin(&mut coins).write_pair(SET, &mut record) {
-        Ok(()) => {}
-        Err(refusal) => println!(rt; "5. A coin too few: {}", Trouble::Refused(refusal))?,
+    if let Err(refusal) = Job::begin(&mut coins).write_pair(SET, &mut record) {
+        println!(rt; "5. A coin too few: {}", Trouble::Refused(refusal))?;
     }
     println!(rt;
         "   The record stays as it was, {}, and the coins are zeros, {}.",
@@ -60,9 +59,8 @@ fn refusals(rt: &HostRuntime) -> Result<(), Trouble> {
         Spaced(&coins)
     )?;
     let mut digits = [Digit::ZERO; 4];
-    match read_ternary_part(&[0xF3], &mut digits) {
-        Ok(()) => {}
-        Err(refusal) => println!(rt; "6. A damaged part: {}", Trouble::Refused(refusal))?,
+    if let Err(refusal) = read_ternary_part(&[0xF3], &mut digits) {
+        println!(rt; "6. A damaged part: {}", Trouble::Refused(refusal))?;
     }
     Ok(())
 }

@@ -7,7 +7,7 @@ use std::io;
 use std::time::{Clock, Duration, Instant};
 
 // The least time that `step` takes in so many turns, each on what `draw` makes for it, which is not timed. The least of no times is the
-// longest duration. An error of a step ends it.
+// longest duration. The first error ends it.
 pub fn best_of<I, E, D, S>(
     clock: &impl Clock,
     turns: u32,
@@ -21,7 +21,7 @@ where
     S: FnMut(I) -> Result<(), E>,
     requires draw { D.IsAlwaysCallable draw }
     requires step { S.IsAlwaysCallable step }
-    ensures each_turn { IfOk result (λ best. (draws : D) × (steps : S) × Runs (Turn (λ p x q. D.step p x q) (λ p x q. S.step p x (Ok tt) q)) turns (draw, step) (draws, steps)) }
+    ensures each_turn { IfOk result (λ best. (draws : D) × (steps : S) × Runs (Turn D.step (λ p x q. S.step p x (Ok tt) q)) turns (draw, step) (draws, steps)) }
     ensures no_turns { turns ≡ 0 → IfOk result (λ best. as_nanos best ≡ max_nanos) }
 {
     let mut best = Duration::MAX;

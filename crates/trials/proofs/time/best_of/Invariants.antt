@@ -7,6 +7,6 @@ abbrev pub invariant-loop-turn : goal.invariant-loop-turn
 invariant-loop-turn g l = record {
   draw : goal.D-IsAlwaysCallable g l.draw;
   step : goal.S-IsAlwaysCallable g l.step;
-  each_turn : Runs (Turn (λ p x q. goal.D-step g p x q) (λ p x q. goal.S-step g p x (Ok tt) q)) l.turn (l.initial.draw, l.initial.step) (l.draw, l.step);
+  each_turn : Runs (Turn (goal.D-step g) (λ p x q. goal.S-step g p x (Ok tt) q)) l.turn (l.initial.draw, l.initial.step) (l.draw, l.step);
   no_turns : l.turn ≡ 0 → as_nanos l.best ≡ max_nanos;
 }

@@ -1,33 +1,12 @@
 // What can go wrong.
 use scheme::Refusal;
-use std::{fmt, io};
+use std::io;
+use thiserror::Error;
 
-#[derive(Drop)]
+#[derive(Debug, Drop, Error)]
 pub(crate) enum Fault {
-    Refused(Refusal),
-    Io(io::Error),
-}
-
-impl fmt::Display for Fault {
-    fn fmt<W: fmt::Write>(&self, f: &mut fmt::Formatter<W>) -> fmt::Result {
-        match self {
-            Fault::Refused(refusal) => {
-                let number = refusal.number();
-                write!(f, "bench: refused {number}, where it should be served")
-            }
-            Fault::Io(e) => write!(f, "bench: {e}"),
-        }
-    }
-}
-
-impl From<Refusal> for Fault {
-    fn from(refusal: Refusal) -> Fault {
-        Fault::Refused(refusal)
-    }
-}
-
-impl From<io::Error> for Fault {
-    fn from(e: io::Error) -> Fault {
-        Fault::Io(e)
-    }
+    #[error("bench: refused {number}, where it should be served", number = .0.number())]
+    Refused(#[from] Refusal),
+    #[error("bench: {0}")]
+    Io(#[from] io::Error),
 }

@@ -5,10 +5,10 @@ use std::env;
 use std::process::ExitCode;
 
 mod fault;
-mod random;
 mod time;
 
 use fault::Fault;
+use time::Trial;
 
 const HELP: &str = "bench: make, the key test, seal and open at set 3
 
@@ -16,12 +16,10 @@ const HELP: &str = "bench: make, the key test, seal and open at set 3
   bench time    prints the best time of many for each, in nanoseconds";
 
 fn run(rt: &HostRuntime) -> Result<(), Fault> {
-    match env::args(rt)?.skip(1).next() {
-        None => time::run(rt, 1, false),
-        Some(word) => match word.as_str() {
-            "time" => time::run(rt, 300, true),
-            _ => Ok(rt.println(HELP)?),
-        },
+    match env::args(rt)?.nth(1).as_deref() {
+        None => time::run(rt, Trial::Once),
+        Some("time") => time::run(rt, Trial::Timed(300)),
+        Some(_) => Ok(rt.println(HELP)?),
     }
 }
 

@@ -1,67 +1,70 @@
-// The calls at set 3, each the best of some turns in nanoseconds.
+// The calls at set 3, each once or the best of some turns in nanoseconds.
 use crate::fault::Fault;
-use crate::random::Random;
 use arithmetic::WordByWord;
 use scheme::{Job, open_record, test_key};
-use std::time::Instant;
+use std::time::Duration;
+use trials::{Random, best_of, fill, generator};
 
 const SET: u8 = 3;
 
-pub(crate) fn run(rt: &HostRuntime, turns: u32, timed: bool) -> Result<(), Fault> {
-    let mut random = Random::new();
+// How often a call is tried, and what is said of it.
+#[derive(Clone, Copy)]
+pub(crate) enum Trial {
+    // Once: that it was served.
+    Once,
+    // So many times, and the shorter calls more often: its best time.
+    Timed(u32),
+}
+
+impl Trial {
+    fn turns(self, times: u32) -> u32 {
+        match self {
+            Trial::Once => 1,
+            Trial::Timed(turns) => turns.saturating_mul(times),
+        }
+    }
+
+    fn tell(self, rt: &HostRuntime, name: &str, best: Duration) -> Result<(), Fault> {
+        match self {
+            Trial::Once => println!(rt; "{name} served")?,
+            Trial::Timed(_) => println!(rt; "{name} {}", best.as_nanos())?,
+        }
+        Ok(())
+    }
+}
+
+pub(crate) fn run(rt: &HostRuntime, trial: Trial) -> Result<(), Fault> {
+    let mut random = generator();
     let mut card = [0u8; 2556];
     let mut sealed = [0u8; 1138];
-    // The shorter a call, the more turns.
-    let best = make(rt, turns, &mut random, &mut card)?;
-    tell(rt, timed, "make", best)?;
-    let best = test(rt, turns.saturating_mul(6), &card)?;
-    tell(rt, timed, "key-test", best)?;
-    let best = seal(
+    let best = make(rt, trial.turns(1), &mut random, &mut card)?;
+    trial.tell(rt, "make", best)?;
+    let best = test(rt, trial.turns(6), &card)?;
+    trial.tell(rt, "key-test", best)?;
+    let best = seal(rt, trial.turns(18), &mut random, &card, &mut sealed)?;
+    trial.tell(rt, "seal", best)?;
+    let best = open(rt, trial.turns(6), &card, &sealed)?;
+    trial.tell(rt, "open", best)
+}
+
+fn make(
+    rt: &HostRuntime,
+    turns: u32,
+    random: &mut Random,
+    card: &mut [u8],
+) -> Result<Duration, Fault> {
+    let mut unit = WordByWord::new();
+    best_of(
         rt,
-        turns.saturating_mul(18),
-        &mut random,
-        &card,
-        &mut sealed,
-    )?;
-    tell(rt, timed, "seal", best)?;
-    let best = open(rt, turns.saturating_mul(6), &card, &sealed)?;
-    tell(rt, timed, "open", best)?;
-    Ok(())
+        turns,
+        || draw(random),
+        |mut coins| Ok(Job::begin(&mut coins).make(SET, card, &mut unit)?),
+    )
 }
 
-fn tell(rt: &HostRuntime, timed: bool, name: &str, best: u128) -> Result<(), Fault> {
-    if timed {
-        println!(rt; "{name} {best}")?;
-    } else {
-        println!(rt; "{name} served")?;
-    }
-    Ok(())
-}
-
-fn make(rt: &HostRuntime, turns: u32, random: &mut Random, card: &mut [u8]) -> Result<u128, Fault> {
+fn test(rt: &HostRuntime, turns: u32, card: &[u8]) -> Result<Duration, Fault> {
     let mut unit = WordByWord::new();
-    let mut best: u128 = u128::MAX;
-    for _ in 0..turns {
-        let mut coins = [0u8; 700];
-        random.bytes(&mut coins);
-        let start = Instant::now(rt)?;
-        let answer = Job::begin(&mut coins).make(SET, card, &mut unit);
-        best = best.min(start.elapsed(rt)?.as_nanos());
-        answer?;
-    }
-    Ok(best)
-}
-
-fn test(rt: &HostRuntime, turns: u32, card: &[u8]) -> Result<u128, Fault> {
-    let mut unit = WordByWord::new();
-    let mut best: u128 = u128::MAX;
-    for _ in 0..turns {
-        let start = Instant::now(rt)?;
-        let answer = test_key(SET, card, &mut unit);
-        best = best.min(start.elapsed(rt)?.as_nanos());
-        answer?;
-    }
-    Ok(best)
+    best_of(rt, turns, || (), |()| Ok(test_key(SET, card, &mut unit)?))
 }
 
 fn seal(
@@ -70,29 +73,31 @@ fn seal(
     random: &mut Random,
     card: &[u8],
     sealed: &mut [u8],
-) -> Result<u128, Fault> {
+) -> Result<Duration, Fault> {
     let mut unit = WordByWord::new();
-    let mut best: u128 = u128::MAX;
-    for _ in 0..turns {
-        let mut coins = [0u8; 700];
-        random.bytes(&mut coins);
-        let start = Instant::now(rt)?;
-        let answer = Job::begin(&mut coins).seal(SET, card, sealed, &mut unit);
-        best = best.min(start.elapsed(rt)?.as_nanos());
-        answer?;
-    }
-    Ok(best)
+    best_of(
+        rt,
+        turns,
+        || draw(random),
+        |mut coins| Ok(Job::begin(&mut coins).seal(SET, card, sealed, &mut unit)?),
+    )
 }
 
-fn open(rt: &HostRuntime, turns: u32, card: &[u8], sealed: &[u8]) -> Result<u128, Fault> {
+fn open(rt: &HostRuntime, turns: u32, card: &[u8], sealed: &[u8]) -> Result<Duration, Fault> {
     let mut unit = WordByWord::new();
-    let mut best: u128 = u128::MAX;
-    for _ in 0..turns {
-        let mut pair = [0u8; 280];
-        let start = Instant::now(rt)?;
-        let answer = open_record(SET, card, sealed, &mut pair, &mut unit);
-        best = best.min(start.elapsed(rt)?.as_nanos());
-        answer?;
-    }
-    Ok(best)
+    let mut pair = [0u8; 280];
+    best_of(
+        rt,
+        turns,
+        || (),
+        |()| Ok(open_record(SET, card, sealed, &mut pair, &mut unit)?),
+    )
+}
+
+// Not inlined: the lists of a call that coins are drawn beside can come to lie 4096 bytes apart, and a processor takes one for the other.
+#[inline(never)]
+fn draw(random: &mut Random) -> [u8; 700] {
+    let mut coins = [0u8; 700];
+    fill(random, &mut coins, |x| (x & 0xff) as u8);
+    coins
 }

@@ -2,7 +2,7 @@
 use crate::trouble::Trouble;
 use arithmetic::Digit;
 use scheme::{Job, ParameterSet, draw_key, draw_pair, read_ternary_part};
-use std::alloc::{AllocError, Global};
+use std::fmt;
 
 const SET: u8 = 1;
 
@@ -17,67 +17,56 @@ pub(crate) fn run(rt: &HostRuntime) -> Result<(), Trouble> {
 
 // A pair record from coins, and back.
 fn pair(rt: &HostRuntime) -> Result<(), Trouble> {
-    let heap = rt.alloc();
     let mut coins = [0x01u8, 0x04, 0x10, 0x01];
-    println!(rt; "1. Four coins are drawn: {}", hex(heap, &coins)?)?;
+    println!(rt; "1. Four coins are drawn: {}", Spaced(&coins))?;
     let set = ParameterSet::try_from(SET)?;
     let mut r = [Digit::ZERO; 5];
     let mut m = [Digit::ZERO; 5];
     draw_pair(set, &coins, &mut r, &mut m)?;
     println!(rt;
         "   Each half byte is one coefficient: r = {}, m = {}",
-        signed(heap, &r)?,
-        signed(heap, &m)?
+        Spaced(&r),
+        Spaced(&m)
     )?;
     let mut record = [0u8; 2];
     Job::begin(&mut coins).write_pair(SET, &mut record)?;
     println!(rt;
         "2. A job takes the coins and writes the pair record: {}",
-        hex(heap, &record)?
+        Spaced(&record)
     )?;
     println!(rt;
         "3. The coins are spent, and nobody can use them again: {}",
-        hex(heap, &coins)?
+        Spaced(&coins)
     )?;
     let mut digits = [Digit::ZERO; 4];
     read_ternary_part(&record[0..1], &mut digits)?;
-    println!(rt;
-        "4. The record is read back: r = {}",
-        signed(heap, &digits)?
-    )?;
+    println!(rt; "4. The record is read back: r = {}", Spaced(&digits))?;
     read_ternary_part(&record[1..2], &mut digits)?;
-    println!(rt;
-        "                            m = {}",
-        signed(heap, &digits)?
-    )?;
+    println!(rt; "                            m = {}", Spaced(&digits))?;
     Ok(())
 }
 
 // What is refused, and that the coins are gone then too.
 fn refusals(rt: &HostRuntime) -> Result<(), Trouble> {
-    let heap = rt.alloc();
     let mut record = [0u8; 2];
     let mut coins = [0x01u8, 0x04, 0x10];
-    match Job::begin(&mut coins).write_pair(SET, &mut record) {
-        Ok(()) => {}
-        Err(refusal) => println!(rt; "5. A coin too few: {}", Trouble::Refused(refusal))?,
+    if let Err(refusal) = Job::begin(&mut coins).write_pair(SET, &mut record) {
+        println!(rt; "5. A coin too few: {}", Trouble::Refused(refusal))?;
     }
     println!(rt;
         "   The record stays as it was, {}, and the coins are zeros, {}.",
-        hex(heap, &record)?,
-        hex(heap, &coins)?
+        Spaced(&record),
+        Spaced(&coins)
     )?;
     let mut digits = [Digit::ZERO; 4];
-    match read_ternary_part(&[0xF3], &mut digits) {
-        Ok(()) => {}
-        Err(refusal) => println!(rt; "6. A damaged part: {}", Trouble::Refused(refusal))?,
+    if let Err(refusal) = read_ternary_part(&[0xF3], &mut digits) {
+        println!(rt; "6. A damaged part: {}", Trouble::Refused(refusal))?;
     }
     Ok(())
 }
 
 // f and g of a card, whose signs are settled.
 fn signs(rt: &HostRuntime) -> Result<(), Trouble> {
-    let heap = rt.alloc();
     let coins = [0x31u8, 0x00, 0x01, 0x00];
     let set = ParameterSet::try_from(SET)?;
     let mut f = [Digit::ZERO; 5];
@@ -85,38 +74,47 @@ fn signs(rt: &HostRuntime) -> Result<(), Trouble> {
     draw_pair(set, &coins, &mut f, &mut g)?;
     println!(rt;
         "7. For a card f and g are drawn: f = {}, g = {}",
-        signed(heap, &f)?,
-        signed(heap, &g)?
+        Spaced(&f),
+        Spaced(&g)
     )?;
     draw_key(set, &coins, &mut f, &mut g)?;
     println!(rt;
         "   Where neighbours mostly differ in sign, every other sign is flipped: f = {}, g = {}",
-        signed(heap, &f)?,
-        signed(heap, &g)?
+        Spaced(&f),
+        Spaced(&g)
     )?;
     Ok(())
 }
 
-// Bytes as two hexadecimal digits each.
-fn hex(heap: Global, bytes: &[u8]) -> Result<String, AllocError> {
-    let mut text = String::new(heap);
-    for b in bytes {
-        if text.len() > 0 {
-            text.push_str(" ")?;
-        }
-        text.push_str(format!(in heap; "{:02X}", *b)?.as_str())?;
-    }
-    Ok(text)
+// The items of a list with a space between them.
+#[derive(Drop)]
+struct Spaced<'a, T>(&'a [T]);
+
+// How an item is shown: a byte as two hexadecimal digits, a digit as a number.
+trait Shown {
+    fn show<W: fmt::Write>(&self, f: &mut fmt::Formatter<W>) -> fmt::Result;
 }
 
-// Digits as numbers.
-fn signed(heap: Global, digits: &[Digit]) -> Result<String, AllocError> {
-    let mut text = String::new(heap);
-    for d in digits {
-        if text.len() > 0 {
-            text.push_str(" ")?;
-        }
-        text.push_str(format!(in heap; "{}", d.signed())?.as_str())?;
+impl Shown for u8 {
+    fn show<W: fmt::Write>(&self, f: &mut fmt::Formatter<W>) -> fmt::Result {
+        write!(f, "{self:02X}")
     }
-    Ok(text)
+}
+
+impl Shown for Digit {
+    fn show<W: fmt::Write>(&self, f: &mut fmt::Formatter<W>) -> fmt::Result {
+        write!(f, "{}", i8::from(*self))
+    }
+}
+
+impl<'a, T: Shown> fmt::Display for Spaced<'a, T> {
+    fn fmt<W: fmt::Write>(&self, f: &mut fmt::Formatter<W>) -> fmt::Result {
+        for (i, item) in self.0.iter().enumerate() {
+            if i > 0 {
+                f.write_str(" ")?;
+            }
+            item.show(f)?;
+        }
+        Ok(())
+    }
 }

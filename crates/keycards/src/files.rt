@@ -1,5 +1,5 @@
 // Files: coins that are read once and then zeroed, input that is read so far as any set has it, and output that never replaces a file.
-use crate::trouble::{Trouble, of_file};
+use crate::trouble::Trouble;
 use std::fs::{File, OpenOptions};
 use std::io::{ErrorKind, Read, Write};
 use std::{fs, io};
@@ -16,41 +16,63 @@ pub(crate) enum AtStake {
 
 // A coin file that is open for reading, and once more for overwriting: coins that could not be zeroed are never read.
 #[derive(Drop)]
-pub struct CoinFile {
+pub(crate) struct CoinFile<'r, 'a> {
+    rt: &'r HostRuntime,
+    path: &'a str,
     reader: File,
     eraser: File,
 }
 
-// Opens a coin file and touches nothing of it.
-pub(crate) fn open_coins(rt: &HostRuntime, path: &str) -> Result<CoinFile, Trouble> {
-    let heap = rt.alloc();
-    let reader = open(rt, path)?;
-    if !plain(&reader)? {
-        return Err(of_file(
-            heap,
+impl<'r, 'a> CoinFile<'r, 'a> {
+    // Opens a coin file and touches nothing of it.
+    pub(crate) fn open(rt: &'r HostRuntime, path: &'a str) -> Result<CoinFile<'r, 'a>, Trouble> {
+        let reader = open(rt, path)?;
+        if !reader.metadata()?.is_file() {
+            return Err(Trouble::of_file(
+                rt.alloc(),
+                path,
+                "is not a plain file; copy the coins into a file first",
+            ));
+        }
+        let eraser = OpenOptions::new().write(true).open(rt, path).map_err(|_| {
+            Trouble::of_file(
+                rt.alloc(),
+                path,
+                "cannot be written to, so its coins could not be zeroed; they were not used",
+            )
+        })?;
+        Ok(CoinFile {
+            rt,
             path,
-            "is not a plain file; copy the coins into a file first",
-        ));
+            reader,
+            eraser,
+        })
     }
-    match OpenOptions::new().write(true).open(rt, path) {
-        Ok(eraser) => Ok(CoinFile { reader, eraser }),
-        Err(_) => Err(of_file(
-            heap,
-            path,
-            "cannot be written to, so its coins could not be zeroed; they were not used",
-        )),
+
+    pub(crate) fn read(&mut self) -> Result<Vec<u8>, Trouble> {
+        let mut coins = Vec::new(self.rt.alloc());
+        match self.reader.read_to_end(&mut coins) {
+            Ok(_) => Ok(coins),
+            Err(_) => Err(self.trouble("could not be read to its end; its coins were not used")),
+        }
+    }
+
+    // Overwrites the file from its start.
+    pub(crate) fn overwrite(&mut self, zeros: &[u8]) -> Result<(), Trouble> {
+        write_and_flush(&mut self.eraser, zeros).map_err(|_| {
+            self.trouble(
+                "could not be overwritten with zeros: destroy this file, and draw new coins",
+            )
+        })
+    }
+
+    fn trouble(&self, what: &str) -> Trouble {
+        Trouble::of_file(self.rt.alloc(), self.path, what)
     }
 }
 
 fn open(rt: &HostRuntime, path: &str) -> Result<File, Trouble> {
-    match File::open(rt, path) {
-        Ok(file) => Ok(file),
-        Err(e) => Err(of_file(rt.alloc(), path, why_not_read(e.kind()))),
-    }
-}
-
-fn plain(file: &File) -> io::Result<bool> {
-    Ok(file.metadata()?.is_file())
+    File::open(rt, path).map_err(|e| Trouble::of_file(rt.alloc(), path, why_not_read(e.kind())))
 }
 
 fn why_not_read(kind: ErrorKind) -> &'static str {
@@ -67,38 +89,7 @@ pub(crate) fn read_input(rt: &HostRuntime, path: &str) -> Result<Vec<u8>, Troubl
     let mut bytes = Vec::new(rt.alloc());
     match file.take(MOST).read_to_end(&mut bytes) {
         Ok(_) => Ok(bytes),
-        Err(_) => Err(of_file(rt.alloc(), path, "cannot be read")),
-    }
-}
-
-impl CoinFile {
-    pub(crate) fn read(&mut self, rt: &HostRuntime, path: &str) -> Result<Vec<u8>, Trouble> {
-        let mut coins = Vec::new(rt.alloc());
-        match self.reader.read_to_end(&mut coins) {
-            Ok(_) => Ok(coins),
-            Err(_) => Err(of_file(
-                rt.alloc(),
-                path,
-                "could not be read to its end; its coins were not used",
-            )),
-        }
-    }
-
-    // Overwrites the file from its start.
-    pub(crate) fn overwrite(
-        &mut self,
-        rt: &HostRuntime,
-        path: &str,
-        zeros: &[u8],
-    ) -> Result<(), Trouble> {
-        match write_and_flush(&mut self.eraser, zeros) {
-            Ok(()) => Ok(()),
-            Err(_) => Err(of_file(
-                rt.alloc(),
-                path,
-                "could not be overwritten with zeros: destroy this file, and draw new coins",
-            )),
-        }
+        Err(_) => Err(Trouble::of_file(rt.alloc(), path, "cannot be read")),
     }
 }
 
@@ -107,11 +98,54 @@ fn write_and_flush(file: &mut File, bytes: &[u8]) -> io::Result<()> {
     file.sync_all()
 }
 
-// Makes an empty file where none is.
-pub(crate) fn reserve(rt: &HostRuntime, path: &str, at_stake: AtStake) -> Result<File, Trouble> {
-    match File::create_new(rt, path) {
-        Ok(file) => Ok(file),
-        Err(e) => Err(of_file(rt.alloc(), path, why_not_made(e.kind(), at_stake))),
+// An empty file that was made for an output. It is filled or taken away again.
+pub(crate) struct Output<'r, 'a> {
+    rt: &'r HostRuntime,
+    path: &'a str,
+    at_stake: AtStake,
+    file: File,
+}
+
+impl<'r, 'a> Output<'r, 'a> {
+    // Makes an empty file where none is.
+    pub(crate) fn reserve(
+        rt: &'r HostRuntime,
+        path: &'a str,
+        at_stake: AtStake,
+    ) -> Result<Output<'r, 'a>, Trouble> {
+        let file = File::create_new(rt, path).map_err(|e| Trouble::of_file(
+            rt.alloc(),
+            path,
+            why_not_made(e.kind(), at_stake),
+        ))?;
+        Ok(Output {
+            rt,
+            path,
+            at_stake,
+            file,
+        })
+    }
+
+    // Fills the file with what was made, and answers how many bytes that is. Where nothing was made or it cannot be filled, takes the
+    // file away again.
+    pub(crate) fn settle(self, made: Result<Vec<u8>, Trouble>) -> Result<usize, Trouble> {
+        let Output {
+            rt,
+            path,
+            at_stake,
+            mut file,
+        } = self;
+        let settled = made.and_then(|bytes| {
+            match write_and_flush(&mut file, bytes.as_slice()) {
+                Ok(()) => Ok(bytes.len()),
+                Err(_) => Err(Trouble::of_file(rt.alloc(), path, why_not_filled(at_stake))),
+            }
+        });
+        if settled.is_err() {
+            // Where that fails too, an empty file is left.
+            let _ = fs::remove_file(rt, path);
+        }
+        settled
     }
 }
 
@@ -132,32 +166,10 @@ fn why_not_made(kind: ErrorKind, at_stake: AtStake) -> &'static str {
     }
 }
 
-// Fills a reserved file, or takes it away again.
-pub(crate) fn fill(
-    rt: &HostRuntime,
-    mut file: File,
-    path: &str,
-    bytes: &[u8],
-    at_stake: AtStake,
-) -> Result<(), Trouble> {
-    match write_and_flush(&mut file, bytes) {
-        Ok(()) => Ok(()),
-        Err(_) => {
-            withdraw(rt, path);
-            Err(of_file(
-                rt.alloc(),
-                path,
-                match at_stake {
-                    AtStake::Coins =>
-                        "could not be written and was taken away again; the coins are spent, draw new ones",
-                    AtStake::Nothing => "could not be written and was taken away again",
-                },
-            ))
-        }
+fn why_not_filled(at_stake: AtStake) -> &'static str {
+    match at_stake {
+        AtStake::Coins =>
+            "could not be written and was taken away again; the coins are spent, draw new ones",
+        AtStake::Nothing => "could not be written and was taken away again",
     }
-}
-
-// Takes a reserved file away again.
-pub(crate) fn withdraw(rt: &HostRuntime, path: &str) {
-    let _ = fs::remove_file(rt, path);
 }

@@ -11,7 +11,8 @@ mod files;
 mod spend;
 mod trouble;
 
-use spend::Task;
+use board::Card;
+use spend::Spending;
 use trouble::Trouble;
 
 const HELP: &str = "keycards: link keys for heat pump controllers
@@ -39,76 +40,54 @@ A refusal is one line, 'refused NUMBER: what it means and what to do'; there is 
 Under a card that is a key, a record that opens is for this board. One that is refused 14 is not: carry it to the next door.";
 
 fn run(rt: &HostRuntime) -> Result<(), Trouble> {
-    let mut words = Vec::new(rt.alloc());
-    for word in env::args(rt)?.skip(1) {
-        words.push(word)?;
+    let heap = rt.alloc();
+    let words: Vec<String> = env::args(rt)?.skip(1).collect(heap)?;
+    let words: Vec<&str> = words.iter().map(|word| word.as_str()).collect(heap)?;
+    match words.as_slice() {
+        [] => Err(Trouble::NoCommand),
+        ["help" | "--help" | "-h", ..] => Ok(rt.println(HELP)?),
+        ["demo", ..] => demo::run(rt),
+        ["pair", set, coins, pair] => Spending::new(set_number(rt, set)?, coins, pair).pair(rt),
+        ["pair", ..] => Err(Trouble::said(
+            heap,
+            "pair takes three words: keycards pair SET COINS PAIR",
+        )),
+        ["make", set, coins, card] => Spending::new(set_number(rt, set)?, coins, card).make(rt),
+        ["make", ..] => Err(Trouble::said(
+            heap,
+            "make takes three words: keycards make SET COINS CARD",
+        )),
+        ["seal", set, card, coins, record] => {
+            let spending = Spending::new(set_number(rt, set)?, coins, record);
+            spending.seal(rt, files::read_input(rt, card)?.as_slice())
+        }
+        ["seal", ..] => Err(Trouble::said(
+            heap,
+            "seal takes four words: keycards seal SET CARD COINS RECORD",
+        )),
+        ["open", set, card, record, pair] => {
+            Card::read(rt, set_number(rt, set)?, card)?.open(rt, record, pair)
+        }
+        ["open", ..] => Err(Trouble::said(
+            heap,
+            "open takes four words: keycards open SET CARD RECORD PAIR",
+        )),
+        ["test", set, card] => Card::read(rt, set_number(rt, set)?, card)?.test(rt),
+        ["test", ..] => Err(Trouble::said(heap, "test takes two words: keycards test SET CARD")),
+        [other, ..] => Err(Trouble::unknown(heap, other)),
     }
-    let Some(command) = words.first() else {
-        return Err(Trouble::NoCommand);
-    };
-    match command.as_str() {
-        "help" | "--help" | "-h" => Ok(rt.println(HELP)?),
-        "demo" => demo::run(rt),
-        "pair" => pair(rt, words.as_slice()),
-        "make" => make(rt, words.as_slice()),
-        "seal" => seal(rt, words.as_slice()),
-        "open" => open(rt, words.as_slice()),
-        "test" => test(rt, words.as_slice()),
-        other => trouble::unknown(rt.alloc(), other),
-    }
 }
 
-fn pair(rt: &HostRuntime, words: &[String]) -> Result<(), Trouble> {
-    let [_, set, coins, pair] = words else {
-        return Err(Trouble::Form("pair takes three words: keycards pair SET COINS PAIR"));
-    };
-    let number = set_number(rt, set.as_str())?;
-    spend::run(rt, &Task::Pair, number, coins.as_str(), pair.as_str())
-}
-
-fn make(rt: &HostRuntime, words: &[String]) -> Result<(), Trouble> {
-    let [_, set, coins, card] = words else {
-        return Err(Trouble::Form("make takes three words: keycards make SET COINS CARD"));
-    };
-    let number = set_number(rt, set.as_str())?;
-    spend::run(rt, &Task::Card, number, coins.as_str(), card.as_str())
-}
-
-fn seal(rt: &HostRuntime, words: &[String]) -> Result<(), Trouble> {
-    let [_, set, card, coins, record] = words else {
-        return Err(Trouble::Form("seal takes four words: keycards seal SET CARD COINS RECORD"));
-    };
-    let number = set_number(rt, set.as_str())?;
-    let task = Task::Sealed(files::read_input(rt, card.as_str())?);
-    spend::run(rt, &task, number, coins.as_str(), record.as_str())
-}
-
-fn open(rt: &HostRuntime, words: &[String]) -> Result<(), Trouble> {
-    let [_, set, card, record, pair] = words else {
-        return Err(Trouble::Form("open takes four words: keycards open SET CARD RECORD PAIR"));
-    };
-    let number = set_number(rt, set.as_str())?;
-    board::open(rt, number, card.as_str(), record.as_str(), pair.as_str())
-}
-
-fn test(rt: &HostRuntime, words: &[String]) -> Result<(), Trouble> {
-    let [_, set, card] = words else {
-        return Err(Trouble::Form("test takes two words: keycards test SET CARD"));
-    };
-    let number = set_number(rt, set.as_str())?;
-    board::test(rt, number, card.as_str())
-}
-
-// The number of a set. One that no byte holds is no set, as 0 is.
+// The number of a set. One that no byte holds is refused by the calls as 0 is: there is no such set.
 fn set_number(rt: &HostRuntime, word: &str) -> Result<u8, Trouble> {
-    match word.parse::<u32>() {
-        Ok(number) => Ok(u8::try_from(number).unwrap_or(0)),
-        Err(_) => Err(trouble::of_file(
+    let number = word.parse::<u32>().map_err(|_| {
+        Trouble::of_file(
             rt.alloc(),
             word,
             "is not the number of a set; sets are 1, 2 and 3",
-        )),
-    }
+        )
+    })?;
+    Ok(u8::try_from(number).unwrap_or(0))
 }
 
 fn main(rt: HostRuntime) -> ExitCode {

@@ -1,53 +1,32 @@
 // What goes wrong, in one line each.
 use crate::advice::meaning;
 use scheme::Refusal;
-use std::alloc::{AllocError, AllocFailed, Global};
-use std::{fmt, io};
+use std::alloc::{AllocError, Global};
+use std::io;
+use thiserror::Error;
 
-#[derive(Drop)]
+#[derive(Debug, Drop, Error)]
 pub enum Trouble {
     // No command was given.
+    #[error("keycards: what shall it do? 'keycards help' lists the commands")]
     NoCommand,
-    // A command was given the wrong number of words; its right form.
-    Form(&'static str),
     // The scheme says no.
-    Refused(Refusal),
+    #[error("refused {number}: {text}", number = .0.number(), text = meaning(*.0))]
+    Refused(#[from] Refusal),
     // A card, or what it was given with, has the wrong length.
+    #[error("refused 6: the card, or the coins or the record given with it, has the wrong length for this set; at sets 1, 2 and 3 cards have 8, 16 and 2556 bytes, coins 4, 6 and 700, sealed records 3, 6 and 1138: name the right set, draw new coins, or take another copy")]
     WrongLength,
     // No pair, under a card that is no key: the record may be for this board or not.
+    #[error("refused 14: no pair, but the card is damaged or not a key, so this does not say whose board it is; do not screw the cover down, take another copy of the card and open again")]
     NoPairNoKey,
-    // What a sentence says, as of a file.
+    // What a sentence says, as of a file or of the form of a command.
+    #[error("keycards: {0}")]
     Said(String),
     // Printing or the arguments failed.
-    Io(io::Error),
-    NoMemory,
-}
-
-impl fmt::Display for Trouble {
-    fn fmt<W: fmt::Write>(&self, f: &mut fmt::Formatter<W>) -> fmt::Result {
-        match self {
-            Trouble::NoCommand => f.write_str(
-                "keycards: what shall it do? 'keycards help' lists the commands",
-            ),
-            Trouble::Form(text) => write!(f, "keycards: {text}"),
-            Trouble::Refused(refusal) => {
-                let number = refusal.number();
-                let text = meaning(*refusal);
-                write!(f, "refused {number}: {text}")
-            }
-            Trouble::WrongLength => f.write_str(
-                "refused 6: the card, or the coins or the record given with it, has the wrong length for this set; at sets 1, 2 and 3 cards have 8, 16 and 2556 bytes, coins 4, 6 and 700, sealed records 3, 6 and 1138: name the right set, draw new coins, or take another copy",
-            ),
-            Trouble::NoPairNoKey => f.write_str(
-                "refused 14: no pair, but the card is damaged or not a key, so this does not say whose board it is; do not screw the cover down, take another copy of the card and open again",
-            ),
-            Trouble::Said(text) => write!(f, "keycards: {text}"),
-            Trouble::Io(e) => write!(f, "keycards: {e}"),
-            Trouble::NoMemory => f.write_str(
-                "keycards: there is not enough memory; no output was written. Look whether the coin file is zeros before you use it again",
-            ),
-        }
-    }
+    #[error("keycards: {0}")]
+    Io(#[from] io::Error),
+    #[error("keycards: there is not enough memory; no output was written. Look whether the coin file is zeros before you use it again")]
+    NoMemory(#[from(alloc)] AllocError),
 }
 
 impl Trouble {
@@ -58,43 +37,19 @@ impl Trouble {
             other => Trouble::Refused(other),
         }
     }
-}
 
-impl From<Refusal> for Trouble {
-    fn from(refusal: Refusal) -> Trouble {
-        Trouble::Refused(refusal)
+    pub(crate) fn said(heap: Global, sentence: &str) -> Trouble {
+        String::from_str(heap, sentence).map_or_else(Trouble::NoMemory, Trouble::Said)
     }
-}
 
-impl From<io::Error> for Trouble {
-    fn from(e: io::Error) -> Trouble {
-        Trouble::Io(e)
+    pub(crate) fn unknown(heap: Global, word: &str) -> Trouble {
+        format!(in heap;
+            "there is no command '{word}'; 'keycards help' lists the commands"
+        ).map_or_else(Trouble::NoMemory, Trouble::Said)
     }
-}
 
-impl From<AllocError> for Trouble {
-    fn from(_e: AllocError) -> Trouble {
-        Trouble::NoMemory
-    }
-}
-
-impl<T: Drop> From<AllocFailed<T>> for Trouble {
-    fn from(_e: AllocFailed<T>) -> Trouble {
-        Trouble::NoMemory
-    }
-}
-
-pub(crate) fn unknown(heap: Global, word: &str) -> Result<(), Trouble> {
-    let text = format!(in heap;
-        "there is no command '{word}'; 'keycards help' lists the commands"
-    )?;
-    Err(Trouble::Said(text))
-}
-
-// A file and what is wrong with it.
-pub(crate) fn of_file(heap: Global, path: &str, what: &str) -> Trouble {
-    match format!(in heap; "{path}: {what}") {
-        Ok(text) => Trouble::Said(text),
-        Err(_) => Trouble::NoMemory,
+    // A file and what is wrong with it.
+    pub(crate) fn of_file(heap: Global, path: &str, what: &str) -> Trouble {
+        format!(in heap; "{path}: {what}").map_or_else(Trouble::NoMemory, Trouble::Said)
     }
 }

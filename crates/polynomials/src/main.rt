@@ -5,11 +5,12 @@ use std::env;
 use std::process::ExitCode;
 
 mod demo;
-mod random;
+mod draws;
+mod fault;
 mod time;
 mod work;
 
-use work::Fault;
+use fault::Fault;
 
 const HELP: &str = "polynomials: the arithmetic library at work
 
@@ -18,17 +19,11 @@ const HELP: &str = "polynomials: the arithmetic library at work
   polynomials time     prints the best time of many for each operation at n = 701, in nanoseconds";
 
 fn run(rt: &HostRuntime) -> Result<(), Fault> {
-    let mut words = Vec::new(rt.alloc());
-    for word in env::args(rt)?.skip(1) {
-        words.push(word)?;
-    }
-    match words.first() {
+    match env::args(rt)?.nth(1).as_deref() {
         None => demo::run(rt),
-        Some(word) => match word.as_str() {
-            "words" => demo::words(rt),
-            "time" => time::run(rt),
-            _ => Ok(rt.println(HELP)?),
-        },
+        Some("words") => demo::words(rt),
+        Some("time") => time::run(rt),
+        Some(_) => Ok(rt.println(HELP)?),
     }
 }
 

@@ -1,7 +1,7 @@
 // What a case gives: `ok OUTPUT` or `refused NUMBER`, and the rows that were used, but for make, where their number is left open.
 use crate::case::{Call, Case};
 use crate::fault::Fault;
-use crate::hex;
+use crate::hex::Hex;
 use arithmetic::RowUnit;
 use scheme::{Job, Refusal, open_record, test_key};
 use std::alloc::Global;
@@ -13,14 +13,14 @@ pub(crate) fn line<U: RowUnit>(heap: Global, case: &Case, unit: &mut U) -> Resul
     let mut given = case.given.clone()?;
     let mut out = vec![in heap; FILL; case.length]?;
     let mut text = match serve(case, given.as_mut_slice(), out.as_mut_slice(), unit) {
-        Ok(()) => format!(in heap; "ok {}", hex::shown(heap, out.as_slice())?)?,
+        Ok(()) => format!(in heap; "ok {}", Hex(out.as_slice()))?,
         Err(refusal) => refused(heap, refusal, out.as_slice())?,
     };
-    if spends(case.call) && !all(given.as_slice(), 0) {
+    if spends(case.call) && given.iter().any(|b| *b != 0) {
         text.push_str(", the coins are not zeros")?;
     }
     if !matches!(case.call, Call::Make) {
-        text.push_str(format!(in heap; " rows {}", unit.count())?.as_str())?;
+        write!(text, " rows {}", unit.count())?;
     }
     Ok(text)
 }
@@ -47,17 +47,8 @@ fn serve<U: RowUnit>(
 // A refusal, and whether it left the output as it was.
 fn refused(heap: Global, refusal: Refusal, out: &[u8]) -> Result<String, Fault> {
     let mut text = format!(in heap; "refused {}", refusal.number())?;
-    if !all(out, FILL) {
+    if out.iter().any(|b| *b != FILL) {
         text.push_str(", the output was changed")?;
     }
     Ok(text)
-}
-
-fn all(bytes: &[u8], value: u8) -> bool {
-    for b in bytes {
-        if *b != value {
-            return false;
-        }
-    }
-    true
 }

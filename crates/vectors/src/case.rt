@@ -7,8 +7,9 @@ use crate::fault::Fault;
 use crate::hex;
 use scheme::ParameterSet;
 use std::alloc::Global;
+use std::str::FromStr;
 
-#[derive(Clone, Copy)]
+#[derive(Clone, Copy, PartialEq, Eq)]
 pub(crate) enum Call {
     Make,
     Seal,
@@ -28,8 +29,10 @@ pub(crate) struct Case {
     pub(crate) length: usize,
 }
 
-impl Call {
-    fn named(word: &str) -> Result<Call, Fault> {
+impl FromStr for Call {
+    type Err = Fault;
+
+    fn from_str(word: &str) -> Result<Call, Fault> {
         match word {
             "make" => Ok(Call::Make),
             "seal" => Ok(Call::Seal),
@@ -38,7 +41,9 @@ impl Call {
             _ => Err(Fault::Line),
         }
     }
+}
 
+impl Call {
     fn takes_card(self) -> bool {
         !matches!(self, Call::Make)
     }
@@ -47,34 +52,33 @@ impl Call {
         !matches!(self, Call::Test)
     }
 
-    // The length of the output that the set asks for; 0 where there is no such set.
+    // The length of the output that the set asks for. Where there is no such set it is 0, which no call looks at.
     fn length(self, set: u8) -> usize {
-        let Ok(set) = ParameterSet::try_from(set) else {
-            return 0;
-        };
-        match self {
+        ParameterSet::try_from(set).map_or(0, |set| match self {
             Call::Make => set.card,
             Call::Seal => set.word,
             Call::Open => set.pair,
             Call::Test => 0,
-        }
+        })
     }
 }
 
 impl Case {
     pub(crate) fn read(heap: Global, line: &str) -> Result<Case, Fault> {
         let mut words = line.split_whitespace();
-        let call = Call::named(some(words.next())?)?;
-        let Ok(set) = some(words.next())?.parse::<u8>() else {
-            return Err(Fault::Line);
-        };
+        let call = words.next().ok_or(Fault::Line)?.parse::<Call>()?;
+        let set = words
+            .next()
+            .ok_or(Fault::Line)?
+            .parse::<u8>()
+            .map_err(|_| Fault::Line)?;
         let card = if call.takes_card() {
-            hex::read(heap, some(words.next())?)?
+            hex::read(heap, words.next().ok_or(Fault::Line)?)?
         } else {
             Vec::new(heap)
         };
         let given = if call.takes_more() {
-            hex::read(heap, some(words.next())?)?
+            hex::read(heap, words.next().ok_or(Fault::Line)?)?
         } else {
             Vec::new(heap)
         };
@@ -89,19 +93,10 @@ impl Case {
     }
 }
 
-fn some(word: Option<&str>) -> Result<&str, Fault> {
-    match word {
-        Some(word) => Ok(word),
-        None => Err(Fault::Line),
-    }
-}
-
 fn length(word: Option<&str>, usual: usize) -> Result<usize, Fault> {
     let Some(word) = word else {
         return Ok(usual);
     };
-    match word.parse::<u16>() {
-        Ok(length) => Ok(usize::from(length)),
-        Err(_) => Err(Fault::Line),
-    }
+    let length = word.parse::<u16>().map_err(|_| Fault::Line)?;
+    Ok(usize::from(length))
 }

@@ -1,41 +1,15 @@
 // What can go wrong beside a refusal.
-use std::alloc::{AllocError, AllocFailed};
-use std::{fmt, io};
+use std::alloc::AllocError;
+use std::io;
+use thiserror::Error;
 
-#[derive(Drop)]
+#[derive(Debug, Drop, Error)]
 pub(crate) enum Fault {
     // A line that is no case.
+    #[error("vectors: a line is no case; a case is 'make SET COINS', 'seal SET CARD COINS', 'open SET CARD RECORD' or 'test SET CARD', and but for test a length may follow")]
     Line,
-    Io(io::Error),
-    NoMemory,
-}
-
-impl fmt::Display for Fault {
-    fn fmt<W: fmt::Write>(&self, f: &mut fmt::Formatter<W>) -> fmt::Result {
-        match self {
-            Fault::Line => f.write_str(
-                "vectors: a line is no case; a case is 'make SET COINS', 'seal SET CARD COINS', 'open SET CARD RECORD' or 'test SET CARD', and but for test a length may follow",
-            ),
-            Fault::Io(e) => write!(f, "vectors: {e}"),
-            Fault::NoMemory => f.write_str("vectors: there is not enough memory"),
-        }
-    }
-}
-
-impl From<io::Error> for Fault {
-    fn from(e: io::Error) -> Fault {
-        Fault::Io(e)
-    }
-}
-
-impl From<AllocError> for Fault {
-    fn from(_e: AllocError) -> Fault {
-        Fault::NoMemory
-    }
-}
-
-impl<T: Drop> From<AllocFailed<T>> for Fault {
-    fn from(_e: AllocFailed<T>) -> Fault {
-        Fault::NoMemory
-    }
+    #[error("vectors: {0}")]
+    Io(#[from] io::Error),
+    #[error("vectors: there is not enough memory")]
+    NoMemory(#[from(alloc)] AllocError),
 }

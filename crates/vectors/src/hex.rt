@@ -1,46 +1,42 @@
 // Bytes in hexadecimal; no bytes are written -.
 use crate::fault::Fault;
-use std::alloc::{AllocError, Global};
+use std::alloc::Global;
+use std::fmt;
 
 pub(crate) fn read(heap: Global, text: &str) -> Result<Vec<u8>, Fault> {
     let mut bytes = Vec::new(heap);
     if text == "-" {
         return Ok(bytes);
     }
-    let mut high: Option<u8> = None;
-    for b in text.as_bytes() {
-        let Some(low) = digit(*b) else {
+    for pair in text.as_bytes().chunks(2) {
+        let [high, low] = pair else {
             return Err(Fault::Line);
         };
-        match high {
-            None => high = Some(low),
-            Some(h) => {
-                bytes.push((h << 4) | low)?;
-                high = None;
-            }
-        }
+        bytes.push((digit(*high)? << 4) | digit(*low)?)?;
     }
-    match high {
-        None => Ok(bytes),
-        Some(_) => Err(Fault::Line),
-    }
+    Ok(bytes)
 }
 
-fn digit(b: u8) -> Option<u8> {
+fn digit(b: u8) -> Result<u8, Fault> {
     match b {
-        b'0'..=b'9' => Some(b - b'0'),
-        b'A'..=b'F' => Some(b - b'A' + 10),
-        _ => None,
+        b'0'..=b'9' => Ok(b - b'0'),
+        b'A'..=b'F' => Ok(b - b'A' + 10),
+        _ => Err(Fault::Line),
     }
 }
 
-pub(crate) fn shown(heap: Global, bytes: &[u8]) -> Result<String, AllocError> {
-    if bytes.is_empty() {
-        return String::from_str(heap, "-");
+// Bytes as they are shown.
+#[derive(Drop)]
+pub(crate) struct Hex<'a>(pub(crate) &'a [u8]);
+
+impl<'a> fmt::Display for Hex<'a> {
+    fn fmt<W: fmt::Write>(&self, f: &mut fmt::Formatter<W>) -> fmt::Result {
+        if self.0.is_empty() {
+            return f.write_str("-");
+        }
+        for b in self.0 {
+            write!(f, "{b:02X}")?;
+        }
+        Ok(())
     }
-    let mut text = String::new(heap);
-    for b in bytes {
-        text.push_str(format!(in heap; "{:02X}", *b)?.as_str())?;
-    }
-    Ok(text)
 }

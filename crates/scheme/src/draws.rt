@@ -80,7 +80,7 @@ fn check_room(set: ParameterSet, first: &[Digit], second: &[Digit]) -> Result<()
     Ok(())
 }
 
-// Draws one polynomial from the first half of the coins and one from the second.
+// Draws one polynomial from the first half of the coins and one from the second. The room is the caller's slices, which a type of ours would only wrap.
 pub(crate) fn draw_both(coins: Coins<'_>, first: &mut [Digit], second: &mut [Digit])
     requires room { (length first.old ≡ coins.set.n) × (length second.old ≡ coins.set.n) }
     ensures first { first.new ≡ drawn (first_half coins.entry.set.n coins.entry.bytes.now) }

@@ -13,7 +13,7 @@ fn neighbours(a: Digit, b: Digit) -> i32
     i32::from(i8::from(a)) * i32::from(i8::from(b))
 }
 
-// The sum of v_i times v_(i+1), for i from 0 to n - 3.
+// The sum of v_i times v_(i+1), for i from 0 to n - 3. A sum of so few fits; a type round a slice for that alone would be no plainer than the clause.
 fn correlate(v: &[Digit]) -> i32
     requires { length v.now ≤ 1408 }
     ensures { result ≡ correlation (length v.now) (coefficients v.now) }

@@ -1,6 +1,6 @@
 // Word parts: `width` bits a coefficient, lowest bit first.
 ghost use Rattle.std.specs.Prelude.{◌≡◌, ℕ, ◌*◌, ◌^◌, ◌≤◌, true, false, length, Ok, MatchResult};
-ghost use Rattle.algebra.specs.Radix.{numeral, Under};
+ghost use Rattle.algebra.specs.Radix.{Under};
 ghost use Rattle.scheme.specs.declared.refusal.Refusal.TheVariants.{InputLength};
 ghost use Rattle.scheme.specs.Refusals.{left, verdict};
 ghost use Rattle.scheme.specs.WordParts.{HoldsBits, TakesBits, shaped, word_bytes, word_part, word_reads, word_writes, part_words};
@@ -54,8 +54,6 @@ pub(crate) fn pack_words(width: Width, coefficients: &[u16], out: &mut [u8])
     requires { length out.old ≡ word_bytes width.bits (length coefficients.now) }
     ensures { out.new ≡ word_part width.bits coefficients.now }
 {
-    // Bytes are counted by hand: one takes bits of up to eight coefficients, so that neither list can lead the other in step,
-    // and of bytes that `out.iter_mut()` gave a proof knows nothing later.
     let mut bits: u32 = 0;
     let mut held: u32 = 0;
     let mut at: usize = 0;
@@ -78,24 +76,17 @@ pub(crate) fn unpack_words(width: Width, bytes: &[u8], out: &mut [u16])
     requires { width.bits * length out.old ≤ 8 * length bytes.now }
     ensures { out.new ≡ part_words width.bits (length out.old) bytes.now }
 {
-    let bits = width.bits as usize;
-    for (i, word) in out.iter_mut().enumerate() {
-        // Eight words take as many bytes as one has bits.
-        let bit = i % 8 * bits;
-        let at = i / 8 * bits + bit / 8;
-        let window = number(&bytes[at..bytes.len().min(at + 3)]);
-        *word = width.low(((window >> (bit % 8)) & 0xffff) as u16);
+    let mut bits: u32 = 0;
+    let mut held: u32 = 0;
+    let mut at: usize = 0;
+    for i in 0..out.len() {
+        while held < width.bits {
+            bits |= u32::from(bytes[at]) << held;
+            held += 8;
+            at += 1;
+        }
+        out[i] = width.low((bits & 0xffff) as u16);
+        bits >>= width.bits;
+        held -= width.bits;
     }
-}
-
-// The number that up to three bytes write, lowest first.
-fn number(bytes: &[u8]) -> u32
-    requires { length bytes.now ≤ 3 }
-    ensures { result ≡ numeral 256 bytes.now }
-{
-    let mut number: u32 = 0;
-    for (i, byte) in bytes.iter().enumerate() {
-        number += u32::from(*byte) << (8 * i);
-    }
-    number
 }

@@ -1,35 +1,54 @@
-use Rattle.std.proofs.Common.{◌+◌, ◌*◌, ◌/◌, ◌%◌, ◌^◌, length, sym, ◌∙◌, arith, rules, below_more}
-use Rattle.std.proofs.lemmas.List.{ext_get_or, get_or-set_same, get_or-set_other}
-use Rattle.algebra.specs.Radix.{numeral}
-use Rattle.scheme.specs.WordParts.{part_words}
-use Rattle.scheme.proofs.Numerals.{digits_at}
-use Rattle.scheme.proofs.WordBytes.{length_words, word_place, window_word}
+use Rattle.std.proofs.Common.{◌≡◌, ◌+◌, ◌-◌, ◌*◌, ◌%◌, ◌^◌, ◌<◌, ◌≤◌, ℕ, length, get_or, sym, ap, ◌∙◌, mod-eq_of_lt, arith, rules}
+use lib.Bits.{bit_and, bit_or}
+use Rattle.std.proofs.lemmas.Nat.{shl_whole, and_mask, pow_pos, pow-add}
+use Rattle.algebra.proofs.Regrouping.{mod_of_mod}
+use Rattle.algebra.proofs.Radix.{Regroups, regroups_all}
+use Rattle.algebra.proofs.WordBits.{bits_read, bits_write, times_more, times_below}
 use Rattle.scheme.proofs.words.unpack_words.Goals as goal
 
-pub slice_bounds-number-count : goal.slice_bounds-number-count
-slice_bounds-number-count c =
-    let p = word_place c.args.width.bits c.loop-i.i (length c.args.out.now) (length c.args.bytes.now) c.args.width.some (omega arith) c.requires in
-    omega (arith, p.2)
+-- the low word of the bits has all bits that a word keeps
+low_word : (w x r : ℕ) → w ≤ 16 → r ≡ bit_and x 0xffff % 2 ^ w → r ≡ x % 2 ^ w
+low_word w x r h e =
+    let p : 2 ^ w * 2 ^ (16 - w) ≡ 65536 = sym (pow-add 2 w (16 - w)) ∙ ap (λ k. 2 ^ k) (let q : w + (16 - w) ≡ 16 = omega arith in q) in
+    e ∙ ap (λ k. k % 2 ^ w) (and_mask x 16) ∙ ap (λ k. x % k % 2 ^ w) (sym p) ∙ mod_of_mod x (2 ^ w) (2 ^ (16 - w)) (pow_pos w) (pow_pos (16 - w))
 
-pub slice_bounds-number-start : goal.slice_bounds-number-start
-slice_bounds-number-start c =
-    let p = word_place c.args.width.bits c.loop-i.i (length c.args.out.now) (length c.args.bytes.now) c.args.width.some (omega arith) c.requires in
-    search (rules, p.2)
+pub loop-held-init : goal.loop-held-init
+loop-held-init c = let s = c.loop-i in (s.invariant.0, omega arith, omega arith, s.invariant.3)
+
+pub bounds-bytes-at : goal.bounds-bytes-at
+bounds-bytes-at c = omega (arith, times_below c.args.width.bits c.loop-i.i _ c.loop-i-test.true)
+
+within : (c : goal.After-from) → c.loop-held.at < length c.args.bytes.now
+within c = omega (arith, times_below c.args.width.bits c.loop-i.i _ c.loop-i-test.true)
+
+-- a byte, moved up to the place of the bits held
+byte : (c : goal.After-from) → (c.from.result * 2 ^ c.loop-held.held) % 2 ^ 32 ≡ (get_or c.args.bytes.now c.loop-held.at 0 % 2 ^ 8) * 2 ^ c.loop-held.held
+byte c =
+    let h : c.from.result < 2 ^ 8 = search rules in
+    let e : c.from.result % 2 ^ 8 ≡ c.from.result = mod-eq_of_lt h in
+    shl_whole c.from.result 8 c.loop-held.held 32 h (omega arith) ∙ ap (λ n. n * 2 ^ c.loop-held.held) (sym e ∙ ap (λ n. n % 2 ^ 8) c.from.ensures)
+
+read :
+    (c : goal.After-from)
+    → (bit_or c.loop-held.bits ((c.from.result * 2 ^ c.loop-held.held) % 2 ^ 32) < 2 ^ (c.loop-held.held + 8))
+    × Regroups 256 (2 ^ c.args.width.bits) (bit_or c.loop-held.bits ((c.from.result * 2 ^ c.loop-held.held) % 2 ^ 32)) (2 ^ (c.loop-held.held + 8)) (c.loop-held.at + 1) c.loop-i.i c.args.bytes.now c.loop-i.out
+read c =
+    let s = c.loop-held in
+    bits_read (2 ^ c.args.width.bits) 8 s.bits s.held s.at c.loop-i.i _ c.args.bytes.now c.loop-i.out (byte c) s.invariant.0 (within c) s.invariant.3
+
+pub overflow_add-at : goal.overflow_add-at
+overflow_add-at c = let h = within c in search rules
+
+pub loop-held-preserved : goal.loop-held-preserved
+loop-held-preserved c = let r = read c in (r.0, omega arith, omega arith, r.1)
 
 pub loop-i-preserved : goal.loop-i-preserved
 loop-i-preserved c =
-    let s = c.loop-i in
-    let w = c.args.width.bits in
-    let i = s.i in
-    let bytes = c.args.bytes.now in
-    let p = word_place w i (length c.args.out.now) (length bytes) c.args.width.some (omega arith) c.requires in
-    let word = window_word w i (i / 8 * w + i % 8 * w / 8) (i % 8 * w) c.min.result c.number-window.result c.low.result bytes c.args.width.narrow p.0 p.1 p.2 c.min.ensures c.number-window.ensures c.low.ensures in
-    below_more _ _ (λ k h. get_or-set_other s.out i k c.low.result 0 (omega arith) ∙ s.invariant k h) (get_or-set_same s.out i c.low.result 0 (omega arith) ∙ word)
+    let s = c.loop-held in
+    let r = bits_write 256 c.args.width.bits s.bits s.held s.at c.loop-i.i c.args.bytes.now c.loop-i.out c.loop-held-test.false s.invariant.0 (omega arith) s.invariant.3 in
+    rw (low_word c.args.width.bits s.bits c.low.result (omega arith) c.low.ensures) (r.0, omega arith, omega (arith, times_more c.args.width.bits c.loop-i.i), r.1)
 
 pub returns : goal.returns
 returns c =
     let s = c.loop-i in
-    let w = c.args.width.bits in
-    let n = length c.args.out.now in
-    let bytes = c.args.bytes.now in
-    ext_get_or 0 s.out (part_words w n bytes) (s.auto.out ∙ sym (length_words w n bytes)) (λ k h. s.invariant k (omega arith) ∙ sym (digits_at (2 ^ w) n (numeral 256 bytes) k (omega arith)))
+    rw (sym s.auto.out) (regroups_all 256 (2 ^ c.args.width.bits) s.bits (2 ^ s.held) s.at s.i c.args.bytes.now s.out (omega arith) s.invariant.3)

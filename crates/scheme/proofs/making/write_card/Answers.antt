@@ -1,7 +1,6 @@
-use Rattle.std.proofs.Common.{◌++◌, ◌∙◌, ap₂, arith}
+use Rattle.std.proofs.Common.{◌++◌, ap₂}
 use Rattle.algebra.proofs.Cyclic.{cyclic_laws}
 use Rattle.algebra.proofs.Integers.{integer_laws}
-use Rattle.algebra.proofs.Writes.{two_writes}
 use Rattle.arithmetic.specs.Digits.{coefficients}
 use Rattle.scheme.proofs.making.write_card.Goals as goal
 
@@ -9,5 +8,4 @@ pub returns : goal.returns
 returns c =
     let set = c.args.set in
     let C = cyclic_laws integer_laws set.n in
-    two_writes set.pair c.args.out.now c.write_pair.new.pair c.write_words.new.out (omega arith)
-    ∙ ap₂ ◌++◌ (c.write_pair.ensures _ _ (C.rfl (coefficients c.args.f.now)) (C.rfl (coefficients c.args.fp.now))) c.write_words.ensures
+    ap₂ ◌++◌ (c.write_pair.ensures _ _ (C.rfl (coefficients c.args.f.now)) (C.rfl (coefficients c.args.fp.now))) c.write_words.ensures

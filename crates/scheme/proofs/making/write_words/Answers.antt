@@ -1,20 +1,9 @@
-use Rattle.std.proofs.Common.{◌^◌, ◌++◌, length, ◌∙◌, ap₂, arith, rules}
+use Rattle.std.proofs.Common.{◌^◌, ◌++◌, ◌∙◌, ap₂, arith}
 use Rattle.algebra.proofs.Cyclic.{cyclic_laws}
 use Rattle.algebra.proofs.Integers.{mod_laws}
 use Rattle.arithmetic.specs.Products.{integers_of}
 use Rattle.scheme.proofs.Records.{word_record_is}
-use Rattle.scheme.proofs.SetFacts.{wide, part_room}
 use Rattle.scheme.proofs.making.write_words.Goals as goal
-
-pub write_all_but_last-requires : goal.write_all_but_last-requires
-write_all_but_last-requires c =
-    let set = c.args.set in
-    record { width = (omega (arith, wide set), set.narrow); some = omega arith; room = part_room set (length c.args.h.now) _ (omega arith) (search rules) }
-
-pub write_all_but_last-requires-2 : goal.write_all_but_last-requires-2
-write_all_but_last-requires-2 c =
-    let set = c.args.set in
-    record { width = (omega (arith, wide set), set.narrow); some = omega arith; room = part_room set (length c.args.hq.now) _ (omega arith) (search rules) }
 
 pub returns : goal.returns
 returns c =

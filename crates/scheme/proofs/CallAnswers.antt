@@ -1,12 +1,12 @@
 -- The answers of seal, open, the key test and make, and what is read of a card.
-use Rattle.std.proofs.Common.{◌≡◌, ℕ, zero, suc, ◌+◌, ◌*◌, true, false, not, ◌&&◌, leb, ◌⊎◌, List, [], ◌∷◌, length, take, drop, Ok, Err, Result, sym, refl, ap, ◌∙◌, subst, arith}
+use Rattle.std.proofs.Common.{◌≡◌, ℕ, zero, suc, ◌+◌, ◌*◌, true, false, not, ◌&&◌, leb, List, [], ◌∷◌, length, take, drop, Ok, Err, Result, sym, refl, ap, ◌∙◌, subst, arith}
 use Rattle.std.proofs.lemmas.List.{take-take, drop-take}
 use Rattle.std.proofs.lemmas.Bool.{and_parts}
 use Rattle.algebra.specs.Decided.{in_T}
 use Rattle.algebra.specs.Polynomials.{Poly}
 use Rattle.algebra.proofs.Deciding.{told_by, told_same, ternary_tells}
 use Rattle.scheme.specs.declared.refusal.Refusal.{Refusal}
-use Rattle.scheme.specs.declared.refusal.Refusal.TheVariants.{InputLength, OutputLength, TernaryByte, NoPair}
+use Rattle.scheme.specs.declared.refusal.Refusal.TheVariants.{NoPair}
 use Rattle.scheme.specs.CardPolynomials.{polynomials, stretch, ternary_stretch}
 use Rattle.scheme.specs.KeyTest.{tests, polynomial_tests}
 use Rattle.scheme.specs.Opening.{Opened, opened_record, opens, found_r}
@@ -15,7 +15,7 @@ use Rattle.scheme.specs.Sealing.{seals}
 use Rattle.scheme.specs.Sets.{known, length_of, width_of, record_bytes, card_bytes, pair_bytes, coin_bytes}
 use Rattle.scheme.specs.TernaryParts.{holds_digits}
 use Rattle.scheme.specs.WordPolynomials.{balanced_polynomial}
-use Rattle.scheme.proofs.StepAnswers.{Tabled, ends, stops, goes_on, makes_rows, equal, unequal, equal_both, unequal_either}
+use Rattle.scheme.proofs.StepAnswers.{Tabled, ends, stops, goes_on, makes_rows, equal, equal_both}
 
 -- ---- bytes that hold digits
 pub hold_take : (n : ℕ) (bs : List ℕ) → holds_digits bs ≡ true → holds_digits (take n bs) ≡ true
@@ -45,55 +45,28 @@ pub sealed_served : (set : ℕ) (card coins out : List ℕ) → known set ≡ tr
 sealed_served set card coins out k lc lk lo = goes_on _ _ _ (ap not k) (goes_on _ _ _ (equal_both _ _ _ _ lc lk) (goes_on _ _ _ (equal _ _ lo) (makes_rows (length_of set) _ ends)))
 
 -- ---- open
-module _ (set : ℕ) (card sealed out : List ℕ) (k : known set ≡ true) where
-  pub open_input : (length card ≡ card_bytes (length_of set) (width_of set) → ⊥) ⊎ ((length card ≡ card_bytes (length_of set) (width_of set)) × (length sealed ≡ record_bytes (length_of set) (width_of set) → ⊥)) →
-      Tabled (Err InputLength) 0 (opens set card sealed out)
-  open_input h = goes_on _ _ _ (ap not k) (stops _ _ _ (unequal_either _ _ _ _ h))
+module _ (set : ℕ) (card sealed out : List ℕ) (k : known set ≡ true) (lc : length card ≡ card_bytes (length_of set) (width_of set)) (ls : length sealed ≡ record_bytes (length_of set) (width_of set)) (lo : length out ≡ pair_bytes (length_of set))
+    (hd : holds_digits (ternary_stretch (length_of set) card) ≡ true) where
+  abbrev found : Poly
+  found = let p = polynomials (length_of set) (width_of set) card in found_r (length_of set) (width_of set) p.f p.fp p.hq (balanced_polynomial (length_of set) (width_of set) sealed)
 
-  module _ (lc : length card ≡ card_bytes (length_of set) (width_of set)) (ls : length sealed ≡ record_bytes (length_of set) (width_of set)) where
-    pub open_output : (length out ≡ pair_bytes (length_of set) → ⊥) → Tabled (Err OutputLength) 0 (opens set card sealed out)
-    open_output h = goes_on _ _ _ (ap not k) (goes_on _ _ _ (equal_both _ _ _ _ lc ls) (stops _ _ _ (unequal _ _ h)))
+  pub open_none : in_T (length_of set) found ≡ false → Tabled (Err NoPair) (3 * length_of set + 0) (opens set card sealed out)
+  open_none h = goes_on _ _ _ (ap not k) (goes_on _ _ _ (equal_both _ _ _ _ lc ls) (goes_on _ _ _ (equal _ _ lo) (goes_on _ _ _ (ap not hd) (makes_rows (3 * length_of set) _ (stops _ _ _ (ap not h))))))
 
-    module _ (lo : length out ≡ pair_bytes (length_of set)) where
-      pub open_byte : holds_digits (ternary_stretch (length_of set) card) ≡ false → Tabled (Err TernaryByte) 0 (opens set card sealed out)
-      open_byte h = goes_on _ _ _ (ap not k) (goes_on _ _ _ (equal_both _ _ _ _ lc ls) (goes_on _ _ _ (equal _ _ lo) (stops _ _ _ (ap not h))))
+  pub open_pair : in_T (length_of set) found ≡ true → Tabled (Ok tt) (3 * length_of set + 0) (opens set card sealed out)
+  open_pair h = goes_on _ _ _ (ap not k) (goes_on _ _ _ (equal_both _ _ _ _ lc ls) (goes_on _ _ _ (equal _ _ lo) (goes_on _ _ _ (ap not hd) (makes_rows (3 * length_of set) _ (goes_on _ _ _ (ap not h) ends)))))
 
-      module _ (hd : holds_digits (ternary_stretch (length_of set) card) ≡ true) where
-        abbrev found : Poly
-        found = let p = polynomials (length_of set) (width_of set) card in found_r (length_of set) (width_of set) p.f p.fp p.hq (balanced_polynomial (length_of set) (width_of set) sealed)
-
-        pub open_none : in_T (length_of set) found ≡ false → Tabled (Err NoPair) (3 * length_of set + 0) (opens set card sealed out)
-        open_none h = goes_on _ _ _ (ap not k) (goes_on _ _ _ (equal_both _ _ _ _ lc ls) (goes_on _ _ _ (equal _ _ lo) (goes_on _ _ _ (ap not hd) (makes_rows (3 * length_of set) _ (stops _ _ _ (ap not h))))))
-
-        pub open_pair : in_T (length_of set) found ≡ true → Tabled (Ok tt) (3 * length_of set + 0) (opens set card sealed out)
-        open_pair h = goes_on _ _ _ (ap not k) (goes_on _ _ _ (equal_both _ _ _ _ lc ls) (goes_on _ _ _ (equal _ _ lo) (goes_on _ _ _ (ap not hd) (makes_rows (3 * length_of set) _ (goes_on _ _ _ (ap not h) ends)))))
-
--- what opening leaves is the table's answer, and what that leaves
-pub opened_answers : (set : ℕ) (card sealed out : List ℕ) → known set ≡ true → length card ≡ card_bytes (length_of set) (width_of set) → length sealed ≡ record_bytes (length_of set) (width_of set) → length out ≡ pair_bytes (length_of set) →
-    holds_digits (ternary_stretch (length_of set) card) ≡ true → (answer : Result (Unit {0}) Refusal) (after : List ℕ) →
-    (let p = polynomials (length_of set) (width_of set) card in Opened (length_of set) (width_of set) p.f p.fp p.hq (balanced_polynomial (length_of set) (width_of set) sealed) answer out after) →
-    Tabled answer (3 * length_of set + 0) (opens set card sealed out) × (after ≡ left answer (opened_record (length_of set) (width_of set) card sealed) out)
-opened_answers set card sealed out k lc ls lo hd (Ok u) after o =
-    let p = polynomials (length_of set) (width_of set) card in
-    let r = found_r (length_of set) (width_of set) p.f p.fp p.hq (balanced_polynomial (length_of set) (width_of set) sealed) in
-    let test = told_same true (in_T (length_of set) r) (told_by true (λ _. o.0) (λ _. refl)) (ternary_tells (length_of set) r) in
-    (open_pair set card sealed out k lc ls lo hd (sym test), o.1)
-opened_answers set card sealed out k lc ls lo hd (Err e) after o =
-    let p = polynomials (length_of set) (width_of set) card in
-    let r = found_r (length_of set) (width_of set) p.f p.fp p.hq (balanced_polynomial (length_of set) (width_of set) sealed) in
-    let test = told_same false (in_T (length_of set) r) (told_by false (λ t. absurd (let z : ◌≡◌ {A = ℕ} 0 1 = cc in omega arith)) (λ t. absurd (o.0 t))) (ternary_tells (length_of set) r) in
-    let table = open_none set card sealed out k lc ls lo hd (sym test) in
-    (record { answer_is = ap Err o.1 ∙ table.answer_is; rows_are = table.rows_are }, o.2)
+  -- what opening leaves is the table's answer, and what that leaves
+  pub opened_answers : (answer : Result (Unit {0}) Refusal) (after : List ℕ) →
+      (let p = polynomials (length_of set) (width_of set) card in Opened (length_of set) (width_of set) p.f p.fp p.hq (balanced_polynomial (length_of set) (width_of set) sealed) answer out after) →
+      Tabled answer (3 * length_of set + 0) (opens set card sealed out) × (after ≡ left answer (opened_record (length_of set) (width_of set) card sealed) out)
+  opened_answers (Ok u) after o = (open_pair (sym (told_same true (in_T (length_of set) found) (told_by true (λ _. o.0) (λ _. refl)) (ternary_tells (length_of set) found))), o.1)
+  opened_answers (Err e) after o =
+      let test = told_same false (in_T (length_of set) found) (told_by false (λ t. absurd (let z : ◌≡◌ {A = ℕ} 0 1 = cc in omega arith)) (λ t. absurd (o.0 t))) (ternary_tells (length_of set) found) in
+      let table = open_none (sym test) in
+      (record { answer_is = ap Err o.1 ∙ table.answer_is; rows_are = table.rows_are }, o.2)
 
 -- ---- the key test
-module _ (set : ℕ) (card : List ℕ) (k : known set ≡ true) where
-  pub test_input : (length card ≡ card_bytes (length_of set) (width_of set) → ⊥) → Tabled (Err InputLength) 0 (tests set card)
-  test_input h = goes_on _ _ _ (ap not k) (stops _ _ _ (unequal _ _ h))
-
-  module _ (lc : length card ≡ card_bytes (length_of set) (width_of set)) where
-    pub test_byte : holds_digits (ternary_stretch (length_of set) card) ≡ false → Tabled (Err TernaryByte) 0 (tests set card)
-    test_byte h = goes_on _ _ _ (ap not k) (goes_on _ _ _ (equal _ _ lc) (stops _ _ _ (ap not h)))
-
-    pub test_polynomials : {answer : Result (Unit {0}) Refusal} {rows : ℕ} → holds_digits (ternary_stretch (length_of set) card) ≡ true →
-        Tabled answer rows (polynomial_tests (length_of set) (width_of set) (polynomials (length_of set) (width_of set) card)) → Tabled answer rows (tests set card)
-    test_polynomials h t = goes_on _ _ _ (ap not k) (goes_on _ _ _ (equal _ _ lc) (goes_on _ _ _ (ap not h) t))
+pub test_polynomials : (set : ℕ) (card : List ℕ) → known set ≡ true → length card ≡ card_bytes (length_of set) (width_of set) → {answer : Result (Unit {0}) Refusal} {rows : ℕ} → holds_digits (ternary_stretch (length_of set) card) ≡ true →
+    Tabled answer rows (polynomial_tests (length_of set) (width_of set) (polynomials (length_of set) (width_of set) card)) → Tabled answer rows (tests set card)
+test_polynomials set card k lc h t = goes_on _ _ _ (ap not k) (goes_on _ _ _ (equal _ _ lc) (goes_on _ _ _ (ap not h) t))

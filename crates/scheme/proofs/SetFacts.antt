@@ -1,10 +1,9 @@
 -- What the type of a parameter set says, as lemmas ask for it.
-use Rattle.std.proofs.Common.{◌≡◌, ℕ, zero, suc, ◌+◌, ◌-◌, ◌*◌, ◌/◌, ◌^◌, ◌<◌, ◌≤◌, sym, ap, ◌∙◌, subst, arith}
+use Rattle.std.proofs.Common.{◌≡◌, ℕ, zero, suc, ◌+◌, ◌-◌, ◌*◌, ◌/◌, ◌^◌, ◌<◌, ◌≤◌, ap, ◌∙◌, subst, arith}
 use Rattle.algebra.specs.Sets.{Set}
 use Rattle.algebra.proofs.Sets.{sets_suffice}
 use Rattle.scheme.specs.declared.set.ParameterSet.{ParameterSet}
 use Rattle.scheme.specs.Sets.{ternary_bytes, record_bytes, card_bytes, pair_bytes, coin_bytes}
-use Rattle.scheme.specs.WordParts.{word_bytes}
 
 pub facts : (s : ParameterSet) → Set s.n s.width
 facts s = record {
@@ -23,10 +22,6 @@ two_bits (suc (suc w)) h = omega arith
 
 pub wide : (s : ParameterSet) → 2 ≤ s.width
 wide s = two_bits s.width (sets_suffice s.n s.width (facts s)).big
-
--- a word part of a set holds n - 1 coefficients
-pub part_room : (s : ParameterSet) (a b : ℕ) → a ≡ s.n → b ≡ s.word → b ≡ word_bytes s.width (a - 1)
-part_room s a b ea eb = eb ∙ s.parts.1 ∙ ap (λ k. word_bytes s.width (k - 1)) (sym ea)
 
 -- what holds at a set's n and width
 pub at_set : (P : ℕ → ℕ → Type 0) {a b n w : ℕ} → a ≡ n → b ≡ w → P a b → P n w

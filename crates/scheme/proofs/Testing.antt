@@ -10,7 +10,7 @@ use Rattle.algebra.proofs.Deciding.{told_same, one_tells, ternary+_tells}
 use Rattle.arithmetic.specs.Digits.{coefficients}
 use Rattle.arithmetic.specs.Products.{integers_of}
 use Rattle.arithmetic.specs.declared.digit.Digit.{Digit}
-use Rattle.scheme.specs.declared.refusal.Refusal.TheVariants.{FpNotInverse, NoKeyEquation, HqNotInverse}
+use Rattle.scheme.specs.declared.refusal.Refusal.TheVariants.{NegativeCorrelation, FpNotInverse, NoKeyEquation, HqNotInverse}
 use Rattle.scheme.specs.CardPolynomials.{Polynomials, part_polynomials}
 use Rattle.scheme.specs.KeyTest.{polynomial_tests, test_lines}
 use Rattle.scheme.specs.TernaryPolynomials.{ended_digits}
@@ -27,6 +27,9 @@ no_g n a b c d e f g = goes_on _ _ _ (ap not e) (makes_rows n _ (goes_on _ _ _ (
 
 no_hq : (n : ℕ) (a b c d : Bool) → a ≡ true → b ≡ true → c ≡ true → d ≡ false → Tabled (Err HqNotInverse) (n + (n + (n + 0))) (test_lines n a b c d)
 no_hq n a b c d e f g h = goes_on _ _ _ (ap not e) (makes_rows n _ (goes_on _ _ _ (ap not f) (makes_rows n _ (goes_on _ _ _ (ap not g) (makes_rows n _ (stops _ _ _ (ap not h)))))))
+
+no_correlation : (n : ℕ) (a b c d : Bool) → a ≡ false → Tabled (Err NegativeCorrelation) 0 (test_lines n a b c d)
+no_correlation n a b c d e = stops _ _ _ (ap not e)
 
 pub all_pass : (n : ℕ) (a b c d : Bool) → a ≡ true → b ≡ true → c ≡ true → d ≡ true → Tabled (Ok tt) (n + (n + (n + 0))) (test_lines n a b c d)
 all_pass n a b c d e f g h = goes_on _ _ _ (ap not e) (makes_rows n _ (goes_on _ _ _ (ap not f) (makes_rows n _ (goes_on _ _ _ (ap not g) (makes_rows n _ (goes_on _ _ _ (ap not h) ends))))))
@@ -65,10 +68,16 @@ module _ (n w : ℕ) (two : 2 ≤ n) (wide : 2 ≤ w) (part_f part_fp part_h par
       (subst (λ y. Tells r (Ternary+ n (candidate (2 ^ w) 43691 (times n P.h y)))) f_is (subst (λ y. Tells r (Ternary+ n (candidate (2 ^ w) 43691 (times n y (coefficients f))))) h_is t))
       (ternary+_tells n (candidate (2 ^ w) 43691 (times n P.h P.f)))
 
+  test_f : length f ≡ n → {a : Bool} → a ≡ le_z (pos 0) (correlation (length f) (coefficients f)) → le_z (pos 0) (correlation n P.f) ≡ a
+  test_f lf first = ap (λ v. le_z (pos 0) (correlation n v)) (sym f_is) ∙ ap (λ m. le_z (pos 0) (correlation m (coefficients f))) (sym lf) ∙ sym first
+
+  pub f_fails : length f ≡ n → {a : Bool} → a ≡ le_z (pos 0) (correlation (length f) (coefficients f)) → a ≡ false → Tabled (Err NegativeCorrelation) 0 (polynomial_tests n w P)
+  f_fails lf first fail = no_correlation n _ _ _ _ (test_f lf first ∙ fail)
+
   -- f correlates
   module _ (lf : length f ≡ n) {a : Bool} (first : a ≡ le_z (pos 0) (correlation (length f) (coefficients f))) (pass : a ≡ true) where
     one : le_z (pos 0) (correlation n P.f) ≡ true
-    one = ap (λ v. le_z (pos 0) (correlation n v)) (sym f_is) ∙ ap (λ m. le_z (pos 0) (correlation m (coefficients f))) (sym lf) ∙ sym first ∙ pass
+    one = test_f lf first ∙ pass
 
     module _ {b : Bool} (second : Tells b (InverseMod 3 n (coefficients f) (coefficients fp))) where
       test_fp : reduces_to_one 3 n (times n P.f P.fp) ≡ b

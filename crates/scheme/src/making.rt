@@ -104,9 +104,9 @@ fn write_words(set: ParameterSet, h: &[u16], hq: &[u16], out: &mut [u8])
     ensures { out.new ≡ word_record set.n set.width (integers_of h.now) ++ word_record set.n set.width (integers_of hq.now) }
 {
     let width = set.bits();
-    let word = set.word;
-    write_all_but_last(width, h, &mut out[0..word]);
-    write_all_but_last(width, hq, &mut out[word..]);
+    let (first, second) = out.split_at_mut(set.word);
+    write_all_but_last(width, h, first);
+    write_all_but_last(width, hq, second);
 }
 
 // Writes a card.
@@ -116,9 +116,9 @@ fn write_card(set: ParameterSet, f: &[Digit], fp: &[Digit], h: &[u16], hq: &[u16
     requires room { length out.old ≡ set.card }
     ensures { out.new ≡ card_record set.n set.width (coefficients f.now) (coefficients fp.now) (integers_of h.now) (integers_of hq.now) }
 {
-    let pair = set.pair;
-    write_pair(set, f, fp, &mut out[0..pair]);
-    write_words(set, h, hq, &mut out[pair..]);
+    let (pair, words) = out.split_at_mut(set.pair);
+    write_pair(set, f, fp, pair);
+    write_words(set, h, hq, words);
 }
 
 // Makes the card of coins. Where there is none, `out` stays as it was.

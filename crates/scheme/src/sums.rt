@@ -3,7 +3,7 @@ ghost use Rattle.std.specs.Prelude.{◌≡◌, ℕ, ◌<◌, length, slice_index
 ghost use Rattle.algebra.specs.Polynomials.{SameMod, less, plus};
 ghost use Rattle.arithmetic.specs.Products.{integers_of};
 
-// Each word of u becomes f of it and the word of v at its place.
+// Each word of u becomes f of it and the word of v at its place. Callers write closures: of the name `u16::wrapping_add` a proof knows nothing.
 fn combine<F: Fn(u16, u16) -> u16>(u: &mut [u16], v: &[u16], f: F)
     requires callable { F.IsAlwaysCallable f }
     requires room { length v.now ≡ length u.old }

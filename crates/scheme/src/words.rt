@@ -79,6 +79,7 @@ pub(crate) fn unpack_words(width: Width, bytes: &[u8], out: &mut [u16])
     let mut bits: u32 = 0;
     let mut held: u32 = 0;
     let mut at: usize = 0;
+    // By index: in the inner loop a proof does not see a list that an iterator has lent out.
     for i in 0..out.len() {
         while held < width.bits {
             bits |= u32::from(bytes[at]) << held;

@@ -4,37 +4,10 @@ use Rattle.scheme.specs.CardPolynomials.{polynomials}
 use Rattle.scheme.specs.KeyTest.{polynomial_tests}
 use Rattle.scheme.specs.Steps.{outcome, cost}
 use Rattle.scheme.specs.Sets.{length_of, width_of}
-use Rattle.scheme.proofs.CallAnswers.{test_input, test_byte, test_polynomials}
+use Rattle.scheme.proofs.CallAnswers.{test_polynomials}
 use Rattle.scheme.proofs.CardParts.{tested_bytes, held, parts_are}
-use Rattle.scheme.proofs.RowCounts.{no_rows}
 use Rattle.scheme.proofs.SetFacts.{card_size}
 use Rattle.scheme.proofs.key_test.test_card.Goals as goal
-
-pub returns-then-card-set : goal.returns-then-card-set
-returns-then-card-set g c =
-    let set = c.in_ok-set.set in
-    let found = c.in_ok-set.ensures in
-    let N = length_of c.args.set in
-    let W = width_of c.args.set in
-    let card = c.args.card.now in
-    let rows = g.U.RowUnit.rows c.args.unit.now in
-    let en : set.n ≡ N = found.1 in
-    let ew : set.width ≡ W = found.2 in
-    let table = test_input c.args.set card found.0 (λ e. c.if-card-set.true (e ∙ sym (card_size set N W en ew))) in
-    record { answer = table.answer_is; count = no_rows rows (g.met.U.RowUnit.top c.args.unit.now) ∙ ap (λ r. raised r rows) table.rows_are }
-
-pub returns-then-not-all_hold_digits : goal.returns-then-not-all_hold_digits
-returns-then-not-all_hold_digits g c =
-    let set = c.in_ok-set.set in
-    let found = c.in_ok-set.ensures in
-    let N = length_of c.args.set in
-    let W = width_of c.args.set in
-    let card = c.args.card.now in
-    let rows = g.U.RowUnit.rows c.args.unit.now in
-    let en : set.n ≡ N = found.1 in
-    let ew : set.width ≡ W = found.2 in
-    let table = test_byte c.args.set card found.0 (c.if-card-set.false ∙ card_size set N W en ew) (sym (tested_bytes set N W en ew card) ∙ sym c.all_hold_digits.ensures ∙ c.if-not-all_hold_digits.true) in
-    record { answer = table.answer_is; count = no_rows rows (g.met.U.RowUnit.top c.args.unit.now) ∙ ap (λ r. raised r rows) table.rows_are }
 
 pub test_parts-requires : goal.test_parts-requires
 test_parts-requires g c =

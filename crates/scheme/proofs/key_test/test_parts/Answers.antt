@@ -1,12 +1,31 @@
 use Rattle.std.proofs.Common.{ℕ, ◌^◌, refl, ap, ◌∙◌, subst}
 use Rattle.algebra.specs.Polynomials.{Balanced}
+use Rattle.algebra.specs.Ternary.{Ternary}
+use Rattle.arithmetic.specs.Digits.{coefficients}
 use Rattle.arithmetic.specs.Products.{integers_of}
 use Rattle.arithmetic.specs.Rows.{raised}
 use Rattle.arithmetic.proofs.Rooms.{in_room}
-use Rattle.scheme.proofs.RowCounts.{some_rows, two_rows, three_rows}
+use Rattle.scheme.proofs.RowCounts.{no_rows, some_rows, two_rows, three_rows}
 use Rattle.scheme.proofs.SetFacts.{wide}
-use Rattle.scheme.proofs.Testing.{fp_fails, g_fails, hq_fails, passes}
+use Rattle.scheme.proofs.Testing.{f_fails, fp_fails, g_fails, hq_fails, passes}
 use Rattle.scheme.proofs.key_test.test_parts.Goals as goal
+
+pub returns-then-not-correlates : goal.returns-then-not-correlates
+returns-then-not-correlates g c =
+    let set = c.args.set in
+    let p = c.args.parts in
+    let few = set.length.1 in
+    let rows = g.U.RowUnit.rows c.args.unit.now in
+    let table = f_fails set.n set.width set.length.0 (wide set) p.f.bytes.now p.fp.bytes.now p.h.bytes.now p.hq.bytes.now c.read_ternary.new.out c.read_ternary-2.new.out c.read_balanced.new.out c.read_padded.new.out
+    (in_room _ few) (in_room _ few) (in_room _ few) (in_room _ few) c.read_ternary.ensures.digits c.read_ternary-2.ensures.digits (rw c.bits-width.ensures at c.read_balanced.ensures.words) (rw c.bits-width.ensures at c.read_padded.ensures.words)
+    (c.read_ternary.auto.out ∙ in_room _ few) c.correlates.ensures c.if-not-correlates.true in
+    record { answer = table.answer_is; count = no_rows rows (g.met.U.RowUnit.top c.args.unit.now) ∙ ap (λ r. raised r rows) table.rows_are }
+
+pub is_inverse_modulo_3-requires-clause-digits : goal.is_inverse_modulo_3-requires-clause-digits
+is_inverse_modulo_3-requires-clause-digits g c = let few = c.args.set.length.1 in (c.read_ternary.auto.out ∙ in_room _ few, c.read_ternary-2.auto.out ∙ in_room _ few)
+
+pub is_inverse_modulo_3-requires-clause-last : goal.is_inverse_modulo_3-requires-clause-last
+is_inverse_modulo_3-requires-clause-last g c = subst (λ (k : ℕ). Ternary k (coefficients c.read_ternary-2.new.out)) (in_room _ c.args.set.length.1) c.read_ternary-2.ensures.ternary
 
 pub returns-then-not-is_inverse_modulo_3 : goal.returns-then-not-is_inverse_modulo_3
 returns-then-not-is_inverse_modulo_3 g c =

@@ -1,6 +1,4 @@
-use Rattle.std.proofs.Common.{◌≡◌, ℕ, length, pos, subst, arith, lit<}
-use Rattle.algebra.specs.Ring.{Differ, integers, sum}
-use Rattle.algebra.specs.Stands.{signed}
+use Rattle.std.proofs.Common.{lit<}
 use Rattle.algebra.proofs.WordLoops.{total_none}
 use Rattle.arithmetic.specs.Digits.{coefficients}
 use Rattle.arithmetic.proofs.DigitLoops.{sum_digits_more}
@@ -14,10 +12,3 @@ loop-digit-preserved c =
     let s = c.loop-digit in
     let r = c.sum-total.result in
     (r.small, sum_digits_more c.args.digits.now s.digit-index s.total.0 s.invariant.0 c.digit-item.result r c.loop-digit-test.true c.digit-item.is c.sum-total.ensures.adds s.invariant.1)
-
-pub returns : goal.returns
-returns c =
-    let s = c.loop-digit in
-    let ds = c.args.digits.now in
-    let all : s.digit-index ≡ length ds = omega arith in
-    subst (λ (n : ℕ). Differ integers (pos 3) (signed s.total.0) (sum integers n (coefficients ds))) all s.invariant.1

@@ -10,44 +10,50 @@ use std::alloc::Global;
 const FILL: u8 = 0xA5;
 
 pub(crate) fn line<U: RowUnit>(heap: Global, case: &Case, unit: &mut U) -> Result<String, Fault> {
-    let mut given = case.given.clone()?;
+    let mut call = case.call.clone()?;
     let mut out = vec![in heap; FILL; case.length]?;
-    let mut text = match serve(case, given.as_mut_slice(), out.as_mut_slice(), unit) {
+    let mut text = match serve(&mut call, case.set, out.as_mut_slice(), unit) {
         Ok(()) => format!(in heap; "ok {}", Hex(out.as_slice()))?,
         Err(refusal) => refused(heap, refusal, out.as_slice())?,
     };
-    if spends(case.call) && given.iter().any(|b| *b != 0) {
+    if coins_left(&call) {
         text.push_str(", the coins are not zeros")?;
     }
-    if !matches!(case.call, Call::Make) {
+    if !matches!(call, Call::Make { .. }) {
         write!(text, " rows {}", unit.count())?;
     }
     Ok(text)
 }
 
-fn spends(call: Call) -> bool {
-    matches!(call, Call::Make | Call::Seal)
+fn coins_left(call: &Call) -> bool {
+    match call {
+        Call::Make { coins } | Call::Seal { coins, .. } => coins.iter().any(|coin| *coin != 0),
+        Call::Open { .. } | Call::Test { .. } => false,
+    }
 }
 
 fn serve<U: RowUnit>(
-    case: &Case,
-    given: &mut [u8],
+    call: &mut Call,
+    set: u8,
     out: &mut [u8],
     unit: &mut U,
 ) -> Result<(), Refusal> {
-    let card = case.card.as_slice();
-    match case.call {
-        Call::Make => Job::begin(given).make(case.set, out, unit),
-        Call::Seal => Job::begin(given).seal(case.set, card, out, unit),
-        Call::Open => open_record(case.set, card, given, out, unit),
-        Call::Test => test_key(case.set, card, unit),
+    match call {
+        Call::Make { coins } => Job::begin(coins.as_mut_slice()).make(set, out, unit),
+        Call::Seal { card, coins } => {
+            Job::begin(coins.as_mut_slice()).seal(set, card.as_slice(), out, unit)
+        }
+        Call::Open { card, record } => {
+            open_record(set, card.as_slice(), record.as_slice(), out, unit)
+        }
+        Call::Test { card } => test_key(set, card.as_slice(), unit),
     }
 }
 
 // A refusal, and whether it left the output as it was.
 fn refused(heap: Global, refusal: Refusal, out: &[u8]) -> Result<String, Fault> {
     let mut text = format!(in heap; "refused {}", refusal.number())?;
-    if out.iter().any(|b| *b != FILL) {
+    if out.iter().any(|byte| *byte != FILL) {
         text.push_str(", the output was changed")?;
     }
     Ok(text)

@@ -2,7 +2,7 @@
 use Rattle.std.proofs.Common.{◌≡◌, ℕ, suc, ◌-◌, ◌^◌, ◌<◌, ◌≤◌, [], ◌∷◌, pos, ◌+ℤ◌, ◌*ℤ◌, neg_ℤ, nat_abs, ap, ◌∙◌, ap₂, inl, inr, arith, lit<, pow_pos}
 use Rattle.algebra.specs.Ring.{Agree, Differ, integers, ones, reduce, divided}
 use Rattle.algebra.specs.Ternary.{Ternary, correlation}
-use Rattle.algebra.specs.Polynomials.{Poly, times, Φ1, scale, plus, less, SameMod, SamePhi, Balanced, InverseMod, centre}
+use Rattle.algebra.specs.Polynomials.{Poly, times, Φ1, scale, less, SameMod, SamePhi, Balanced, InverseMod, centre}
 use Rattle.algebra.specs.Scheme.{lifting, shift, opened_a, opened_m, opened_r, candidate, public_key, Makes, Unmakable, Encrypts, Key}
 use Rattle.algebra.proofs.Derived.{mul_left, mul_right}
 use Rattle.algebra.proofs.Solver.{x, one, nat, ◌⊞◌, ◌⊠◌, minus, follows}
@@ -21,12 +21,6 @@ pub narrowed : (w n : ℕ) → w ≤ 16 → {u v : Poly} → SameMod 65536 n u v
 narrowed w n narrow h = divides_same (2 ^ w) (2 ^ (16 - w)) 65536 n (width_divides w narrow) h
 
 -- ---- seal
--- c is r h + (x - 1) s, where u is r, p is u h, y is (x - 1) s and c is p + y
-pub sealed_is : (m n : ℕ) (r h s u p s' y c : Poly) → SameMod m n u r → SameMod m n p (times n u h) → Agree integers n s' s → SameMod m n y (times n (Φ1 n) s') → SameMod m n c (plus p y) →
-    SameMod m n c (plus (times n r h) (times n (Φ1 n) s))
-sealed_is m n r h s u p s' y c hu hp hs hy hc =
-    let C = cyclic_laws (mod_laws m) n in
-    C.tr hc (C.add_cong (C.tr hp (mul_right C h hu)) (C.tr hy (mul_left C (Φ1 n) (agree_mod m n hs))))
 
 -- ---- open
 -- z is a modulo 3, where u is f, y is c u and z is y centred

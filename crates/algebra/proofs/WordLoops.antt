@@ -3,7 +3,6 @@ use Rattle.std.proofs.Common.{◌≡◌, ℕ, suc, ◌+◌, ◌-◌, ◌*◌, �
 use borrow.Author.Differences.{ints}
 use borrow.Author.Tests.{lt-leb}
 use lib.Bits.{bit_and}
-use Rattle.algebra.specs.Decided.{Tells}
 use Rattle.algebra.specs.Radix.{Under}
 use Rattle.algebra.specs.Ring.{Agree, Differ, integers, sum, divided}
 use Rattle.algebra.specs.Polynomials.{Poly, SameMod, centre, scale}
@@ -32,18 +31,6 @@ word_plus m a b = congruent_out m ((a + b) % m) (a + b) (wrapped m (a + b))
 -- a product of words
 pub word_times : (m a b : ℕ) → Differ integers (pos m) (pos ((a * b) % m)) (pos a *ℤ pos b)
 word_times m a b = congruent_out m ((a * b) % m) (a * b) (wrapped m (a * b))
-
--- below i, each word of us is combined with that of vs at its place
-abbrev pub Combined : (m : ℕ) → (ℤ → ℤ → ℤ) → (us vs zs : List ℕ) → ℕ → Type 0
-Combined m f us vs = Changed (λ k w. Differ integers (pos m) (pos w) (f (pos (get_or us k 0)) (pos (get_or vs k 0)))) us
-
--- one word more
-pub combined_more :
-    (m : ℕ) (f : ℤ → ℤ → ℤ) (us vs zs : List ℕ) (i w : ℕ) → i < length zs → Differ integers (pos m) (pos w) (f (pos (get_or zs i 0)) (pos (get_or vs i 0)))
-    → Combined m f us vs zs i → Combined m f us vs (set zs i w) (i + 1)
-combined_more m f us vs zs i w l d inv =
-    changed_more (λ k y. Differ integers (pos m) (pos y) (f (pos (get_or us k 0)) (pos (get_or vs k 0)))) us zs i w l
-    (subst (λ (y : ℕ). Differ integers (pos m) (pos w) (f (pos y) (pos (get_or vs i 0)))) (inv.1 i (omega arith)) d) inv
 
 -- a times each word, modulo q
 pub scaled :
@@ -202,15 +189,3 @@ module _ (w a : ℕ) (some : 1 ≤ w) (few : w ≤ 16) where
 -- the same modulo 65536 are the same centred modulo 2^w
 pub centre_words : (w n : ℕ) (u v : Poly) → w ≤ 16 → SameMod 65536 n u v → Agree integers n (λ k. centre (2 ^ w) (u k)) (λ k. centre (2 ^ w) (v k))
 centre_words w n u v few h = record { at = λ k l. centre_same (2 ^ w) (pow_pos w) (u k) (v k) (divides_mod (2 ^ w) (2 ^ (16 - w)) 65536 (width_divides w few) (h.at k l)) }
-
--- what tells that all coefficients are at most 1 in size tells it of the same coefficients
-pub tells_small :
-    (b : Bool) (n m : ℕ) (u v : Poly) → n ≡ m → Agree integers n u v → Tells b ((k : ℕ) → k < m → nat_abs (u k) ≤ 1) → Tells b ((k : ℕ) → k < n → nat_abs (v k) ≤ 1)
-tells_small b n m u v e h t = record {
-  holds = λ p k l. subst (λ (z : ℤ). nat_abs z ≤ 1) (h.at k l) (t.holds p k (omega arith));
-  fails = λ p f. t.fails p (λ k l. subst (λ (z : ℤ). nat_abs z ≤ 1) (sym (h.at k (omega arith))) (f k (omega arith)));
-}
-
--- what agrees with the first of two that agree agrees with the second
-pub agrees_next : (n m : ℕ) (t u v : Poly) → n ≡ m → Agree integers n u v → Agree integers m t u → Agree integers n t v
-agrees_next n m t u v e h g = record { at = λ k l. g.at k (omega arith) ∙ h.at k l }

@@ -1,29 +1,19 @@
 -- Loops over lists of digits: what one more digit makes of what holds of those before it.
-use Rattle.std.proofs.Common.{◌≡◌, ℕ, zero, suc, ◌+◌, ◌-◌, ◌*◌, ◌/◌, ◌%◌, ◌^◌, ◌<◌, ◌≤◌, ◌⊎◌, List, length, get_or, set, pos, ◌+ℤ◌, neg_ℤ, sym, refl, ap, ◌∙◌, subst, inl, inr, add-one, arith, lit<}
-use lib.Bits.{bit_and}
+use Rattle.std.proofs.Common.{◌≡◌, ℕ, zero, suc, ◌+◌, ◌-◌, ◌/◌, ◌%◌, ◌<◌, List, length, get_or, set, pos, ◌+ℤ◌, neg_ℤ, sym, refl, ap, ◌∙◌, subst, add-one, arith, lit<}
 use Rattle.std.proofs.lemmas.List.{get_or_read}
-use Rattle.algebra.specs.Ring.{Agree, Differ, integers, sum, divided, power}
+use Rattle.algebra.specs.Ring.{Agree, Differ, integers, sum, divided}
 use Rattle.algebra.specs.Residues.{residue, residues}
-use Rattle.algebra.specs.Stands.{signed, digit_number}
-use Rattle.algebra.specs.Polynomials.{Poly, centre}
+use Rattle.algebra.specs.Stands.{signed}
+use Rattle.algebra.specs.Polynomials.{Poly}
 use Rattle.algebra.specs.Scheme.{shift, lifting}
-use Rattle.algebra.proofs.Cyclic.{power_at, power_off}
 use Rattle.algebra.proofs.Integers.{mod_laws, equal_mod}
-use Rattle.algebra.proofs.Stands.{digits_stand}
-use Rattle.algebra.proofs.WordLoops.{filled_more, total_more, rest_none, rest_more, bits_minus_one, bits_small}
+use Rattle.algebra.proofs.WordLoops.{filled_more, total_more, rest_none, rest_more}
 use Rattle.arithmetic.specs.declared.digit.Digit.{Digit}
 use Rattle.arithmetic.specs.Digits.{digit, number, coefficients}
 use Rattle.arithmetic.proofs.Digits.{negation_is, number_negated}
-use Rattle.arithmetic.proofs.Standing.{value_number, number_sum, digits_centre}
+use Rattle.arithmetic.proofs.Standing.{number_sum, digits_centre}
 
 -- ---- values, as numbers
--- equal values are of equal numbers
-pub same_number : (d e : Digit) → residue 3 (lit< tt) d.code ≡ residue 3 (lit< tt) e.code → number d ≡ number e
-same_number d e h = sym (value_number d) ∙ ap digit_number h ∙ value_number e
-
--- and equal numbers of equal values
-pub same_value : (d e : Digit) → number d ≡ number e → residue 3 (lit< tt) d.code ≡ residue 3 (lit< tt) e.code
-same_value d e h = (digits_stand (lit< tt)).faithful (residue 3 (lit< tt) d.code) (residue 3 (lit< tt) e.code) (equal_mod 3 (value_number d ∙ h ∙ sym (value_number e)))
 
 -- the number of minus a digit
 pub number_minus : (d r : Digit) → residue 3 (lit< tt) r.code ≡ (residues 3 (lit< tt)).minus (residue 3 (lit< tt) d.code) → number r ≡ neg_ℤ (number d)
@@ -52,53 +42,6 @@ pub signed_more :
 signed_more ds out i d c x y h room e p q r inv =
     filled_more (λ k w. Differ integers (pos 65536) (pos w) (coefficients ds k)) 0 out i ((x + (65536 - y)) % 65536) room
     (rw (q, r, p, ← number_read ds i d h e) (signed_word d)) inv
-
--- ---- words read as digits
--- one word more, at i
-module _ (w : ℕ) (xs : List ℕ) (out : List Digit) (i a : ℕ) (two : 2 ≤ w) (few : w ≤ 16) (room : i < length out) (read : a ≡ get_or xs i 0) (inv : (k : ℕ) → k < i → coefficients out k ≡ centre (2 ^ w) (pos (get_or xs k 0))) where
-  -- a digit that is the word's centre
-  sign_more : (d : Digit) → number d ≡ centre (2 ^ w) (pos a) → (k : ℕ) → k < i + 1 → coefficients (set out i d) k ≡ centre (2 ^ w) (pos (get_or xs k 0))
-  sign_more d e = filled_more (λ k y. number y ≡ centre (2 ^ w) (pos (get_or xs k 0))) (digit 0) out i d room (e ∙ ap (λ (y : ℕ). centre (2 ^ w) (pos y)) read) inv
-
-  -- all its bits are set
-  pub minus_more :
-      (d : Digit) → d.code ≡ 2 → bit_and a ((1 * 2 ^ w) % 2 ^ 32 - 1) ≡ (1 * 2 ^ w) % 2 ^ 32 - 1
-      → (k : ℕ) → k < i + 1 → coefficients (set out i d) k ≡ centre (2 ^ w) (pos (get_or xs k 0))
-  minus_more d c e = sign_more d (ap signed c ∙ sym (bits_minus_one w a (omega arith) few e))
-
-  -- it is 0 or 1
-  pub small_more :
-      (d : Digit) → d ≡ digit (bit_and a ((1 * 2 ^ w) % 2 ^ 32 - 1)) → bit_and a ((1 * 2 ^ w) % 2 ^ 32 - 1) < 2
-      → (k : ℕ) → k < i + 1 → coefficients (set out i d) k ≡ centre (2 ^ w) (pos (get_or xs k 0))
-  small_more d e h = sign_more d (ap number e ∙ by (bit_and a ((1 * 2 ^ w) % 2 ^ 32 - 1)) h ∙ sym (bits_small w a (omega arith) few two h))
-    where
-      by : (y : ℕ) → y < 2 → number (digit y) ≡ pos y
-      by zero l = refl
-      by (suc zero) l = refl
-      by (suc (suc y)) l = absurd (omega arith)
-
--- ---- the polynomial 1
--- o is the code of its digit i
-abbrev pub UnitCode : (i o : ℕ) → Type 0
-UnitCode i o = ((i ≡ 0) × (o ≡ 1)) ⊎ ((i ≡ 0 → ⊥) × (o ≡ 0))
-
--- that code is a digit's, and its number the coefficient
-unit_digit : (i o : ℕ) → UnitCode i o → (o < 3) × (power integers 0 i ≡ signed o)
-unit_digit i o (inl h) = (omega (arith, h.1), power_at integers 0 i h.0 ∙ ap signed (sym h.1))
-unit_digit i o (inr h) = (omega (arith, h.1), power_off integers 0 i h.0 ∙ ap signed (sym h.1))
-
-module _ (ds : List Digit) (i o : ℕ) (d : Digit) (h : i < length ds) (e : d ≡ get_or ds i d) (unit : UnitCode i o) where
-  -- a digit of that value is the coefficient of 1
-  pub unit_same : residue 3 (lit< tt) d.code ≡ residue 3 (lit< tt) o → coefficients ds i ≡ power integers 0 i
-  unit_same p =
-      let u = unit_digit i o unit in
-      sym (number_read ds i d h e) ∙ same_number d (record { code = o; small = u.0 }) p ∙ sym u.1
-
-  -- and one of another is not
-  pub unit_differs : (residue 3 (lit< tt) d.code ≡ residue 3 (lit< tt) o → ⊥) → coefficients ds i ≡ power integers 0 i → ⊥
-  unit_differs p q =
-      let u = unit_digit i o unit in
-      p (same_value d (record { code = o; small = u.0 }) (number_read ds i d h e ∙ q ∙ u.1))
 
 -- ---- sums
 -- one digit more is added

@@ -1,5 +1,5 @@
 -- Digits are equal where their codes are.
-use Rattle.std.proofs.Common.{◌≡◌, ℕ, zero, suc, ◌-◌, ◌%◌, ◌<◌, ◌≤◌, true, false, ℤ, pos, negsuc, neg_ℤ, nat_abs, sym, refl, ap, ◌∙◌, mod-eq_of_lt, arith, lit<, w8, to_z, of_z}
+use Rattle.std.proofs.Common.{◌≡◌, ℕ, zero, suc, ◌-◌, ◌%◌, ◌<◌, ◌≤◌, true, false, ℤ, pos, negsuc, neg_ℤ, nat_abs, sym, refl, ap, ◌∙◌, mod-eq_of_lt, arith, lit<}
 use mathlib.Core.HLevel.{is_prop→PathP}
 use native.Mathlib.Bridge.{le_prop}
 use borrow.Author.Differences.{ints}
@@ -32,15 +32,6 @@ sign_number d = by d.code d.small ∙ digit_code d
     by (suc zero) h = refl
     by (suc (suc zero)) h = refl
     by (suc (suc (suc x))) h = absurd (omega arith)
-
--- a digit as a signed byte
-pub byte_number : (d : Digit) → to_z w8 (of_z w8 (number d)) ≡ number d
-byte_number d = by d.code
-  where
-    by : (x : ℕ) → to_z w8 (of_z w8 (signed x)) ≡ signed x
-    by zero = refl
-    by (suc zero) = refl
-    by (suc (suc x)) = refl
 
 -- the code of a sign, by the two tests of the code
 pub sign_above : (z : ℤ) → lt_z (pos 0) z ≡ true → (sign z).code ≡ 1

@@ -27,6 +27,7 @@ pub trait Ring: Copy {
     fn negation(self) -> Self
         ensures negates { value result ≡ ring.minus (value self) };
 
+    // No `==`, whose law would be false of words: in a law a word is any number, and 0 and 65536 are two that stand for one value.
     fn same(self, other: Self) -> bool
         ensures equal { result ≡ true → value self ≡ value other }
         ensures differs { result ≡ false → value self ≢ value other };

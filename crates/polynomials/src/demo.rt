@@ -122,8 +122,8 @@ fn check<R: Ring + Drop, F: Fn(u16) -> R>(
 {
     let mut unit = WordByWord::new();
     let back = work::product(heap, &mut unit, f, u)?;
-    let mut back: Vec<R> = back.iter().map(|word| read(*word)).collect(heap)?;
-    if work::reduces_to(back.as_mut_slice(), read(1)) {
+    let back: Vec<R> = back.iter().map(|word| read(*word)).collect(heap)?;
+    if work::reduces_to(back, read(1)) {
         Ok(())
     } else {
         Err(Fault::WrongInverse)

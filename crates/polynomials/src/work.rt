@@ -53,8 +53,8 @@ pub(crate) fn word_inverse<U: RowUnit>(
 }
 
 // Whether a polynomial reduces to `one` modulo 1 + x + .. + x^(n - 1).
-pub(crate) fn reduces_to<R: Ring>(p: &mut [R], one: R) -> bool {
-    subtract_last(p);
+pub(crate) fn reduces_to<R: Ring + Drop>(mut p: Vec<R>, one: R) -> bool {
+    subtract_last(p.as_mut_slice());
     p.iter()
         .enumerate()
         .all(|(i, x)| x.same(if i == 0 { one } else { R::zero() }))

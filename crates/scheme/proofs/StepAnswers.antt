@@ -1,6 +1,6 @@
 -- A call that makes rows answers by its steps, each way out of it after the tests before it.
-use Rattle.std.proofs.Common.{◌≡◌, ℕ, ◌+◌, Bool, true, false, not, ◌&&◌, eqb, ◌⊎◌, List, [], ◌∷◌, Ok, Err, Result, refl, ap, ◌∙◌, inl, inr, arith}
-use Rattle.std.proofs.lemmas.Bool.{eq-eqb, ne_eqb}
+use Rattle.std.proofs.Common.{◌≡◌, ℕ, ◌+◌, Bool, true, false, not, ◌&&◌, eqb, List, [], ◌∷◌, Ok, Err, Result, refl, ap, ◌∙◌, arith}
+use Rattle.std.proofs.lemmas.Bool.{eq-eqb}
 use Rattle.scheme.specs.declared.refusal.Refusal.{Refusal}
 use Rattle.scheme.specs.Steps.{Step, stop, make_rows, outcome, cost}
 
@@ -38,16 +38,8 @@ all_passed (stop e true ∷ rest) p = absurd (let z : ◌≡◌ {A = ℕ} 0 1 = 
 all_passed (stop e false ∷ rest) p = (refl, all_passed rest p)
 all_passed (make_rows k ∷ rest) p = all_passed rest p
 
--- tests of lengths
-pub unequal : (a b : ℕ) → (a ≡ b → ⊥) → not (eqb a b) ≡ true
-unequal a b h = ap not (ne_eqb a b h)
-
 pub equal : (a b : ℕ) → a ≡ b → not (eqb a b) ≡ false
 equal a b h = ap not (eq-eqb a b h)
-
-pub unequal_either : (a b c d : ℕ) → (a ≡ b → ⊥) ⊎ ((a ≡ b) × (c ≡ d → ⊥)) → not (eqb a b && eqb c d) ≡ true
-unequal_either a b c d (inl h) = ap (λ t. not (t && eqb c d)) (ne_eqb a b h)
-unequal_either a b c d (inr h) = ap (λ t. not (t && eqb c d)) (eq-eqb a b h.0) ∙ ap not (ne_eqb c d h.1)
 
 pub equal_both : (a b c d : ℕ) → a ≡ b → c ≡ d → not (eqb a b && eqb c d) ≡ false
 equal_both a b c d h i = ap (λ t. not (t && eqb c d)) (eq-eqb a b h) ∙ ap not (eq-eqb c d i)

@@ -9,7 +9,8 @@ ghost use Rattle.scheme.specs.WordPolynomials.{ReadsBack, balanced, padded};
 use crate::width::Width;
 use crate::words::{pack_words, unpack_words};
 
-// The greatest number of coefficients of a polynomial.
+// The greatest number of coefficients of a polynomial. Nothing allocates, so a call has arrays of that many places, and takes their fronts as its
+// lists; a list that a product is written to lies in a `Room`.
 pub(crate) const LONGEST: usize = 1408;
 
 // The sum modulo 65536.

@@ -50,6 +50,8 @@ fn part_width(bits: u32, count: usize) -> Result<Width, Refusal>
     Width::new(bits).ok_or(Refusal::InputLength)
 }
 
+// Bits come in by coefficients and go out by bytes: `held` bits wait in `bits` for the byte at `at`. A byte takes bits of up to eight
+// coefficients, so neither list goes through the other in steps of its own.
 pub(crate) fn pack_words(width: Width, coefficients: &[u16], out: &mut [u8])
     requires { length out.old ≡ word_bytes width.bits (length coefficients.now) }
     ensures { out.new ≡ word_part width.bits coefficients.now }
@@ -72,6 +74,7 @@ pub(crate) fn pack_words(width: Width, coefficients: &[u16], out: &mut [u8])
     }
 }
 
+// The same the other way. Reading each word out of three bytes was tried: it takes the bytes of a card twice as long.
 pub(crate) fn unpack_words(width: Width, bytes: &[u8], out: &mut [u16])
     requires { width.bits * length out.old ≤ 8 * length bytes.now }
     ensures { out.new ≡ part_words width.bits (length out.old) bytes.now }

@@ -38,7 +38,7 @@ impl From<Digit> for i8 {
 }
 
 impl Digit {
-    // The sign of a number: -1, 0 or 1.
+    // The sign of a number: -1, 0 or 1. No `From`, since numbers of one sign give one digit.
     pub fn from_sign(value: i8) -> Self
         ensures sign_of_the_number { result ≡ sign value }
     {
@@ -51,7 +51,7 @@ impl Digit {
         Digit::ZERO
     }
 
-    // How the digit is written in a ternary part.
+    // How the digit is written in a ternary part: a code and no value, so no `From`.
     pub fn code(self) -> u8
         ensures written_code { result ≡ self.code }
     {

@@ -31,7 +31,8 @@ fn add_lanes<const N: usize>(factor: u16, list: &[u16], out: &mut [u16])
     sums.copy_to_slice(out);
 }
 
-// The words from `done` on, as many as fill vectors of N lanes. Answers how many words are done then.
+// The words from `done` on, as many as fill vectors of N lanes. Answers how many words are done then. By index, since a proof knows nothing
+// of what is written to chunks that an iterator lends.
 fn add_vectors<const N: usize>(factor: u16, list: &[u16], out: &mut [u16], done: usize) -> usize
     requires some_lanes { 0 < N }
     requires same_length { length out.old ≡ length list.now }

@@ -34,7 +34,7 @@ const SET_3: ParameterSet = ParameterSet {
     coins: 700,
 };
 
-// The set of a number: 1, 2 or 3.
+// The set of a number: 1, 2 or 3. Calls take the number itself, since a number of no set is one of their refusals, in its place among them.
 impl TryFrom<u8> for ParameterSet {
     type Error = Refusal;
 

@@ -51,6 +51,3 @@ loop-shift-preserved g c =
       shorter = λ k h. ap (λ f. f k) added ∙ below_more m.laws (p c.loop-shift.r) (p c.args.d.now) x lead s size i c.requires.some (omega arith) (λ j l. inv.shorter j (omega arith)) c.requires.divisor.above factor undone k (omega arith);
       blank = λ k h. let ne : k ≢ s = omega arith in poly_set_other m.laws m.value c.loop-shift.q s k c.product-c.result ne ∙ inv.blank k (omega arith);
     }
-
-pub returns : goal.returns
-returns g c = record { whole = c.loop-shift.invariant.whole; shorter = λ k h. c.loop-shift.invariant.shorter k (omega arith) }

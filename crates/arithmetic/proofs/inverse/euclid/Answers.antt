@@ -16,17 +16,6 @@ loop-low-init g c =
           (omega (arith, c.requires.lengths)) c.requires.modulus c.requires.factors.0 c.requires.factors.1 c.significant-size.ensures.size (omega (arith, c.significant-size.ensures.within, c.requires.lengths));
     }
 
-pub reduce-requires : goal.reduce-requires
-reduce-requires g c =
-    let R = c.loop-low.invariant.reached in
-    record {
-      lengths = (omega (arith, c.requires.lengths), (omega (arith, c.requires.lengths), omega (arith, c.requires.lengths)));
-      sizes = (omega arith, (R.falls, omega (arith, R.most)));
-      dividend = R.size;
-      divisor = R.rest;
-      bound = λ i h. R.bound_next i (omega arith);
-    }
-
 pub conclude-requires : goal.conclude-requires
 conclude-requires g c =
     let F = g.F.Ring in

@@ -5,9 +5,6 @@ use Rattle.euclid.proofs.Lists.{top_undone}
 use Rattle.euclid.proofs.Ending.{ended_none, ended_one}
 use Rattle.arithmetic.proofs.inverse.Row.conclude.Goals as goal
 
-pub bounds-self-self : goal.bounds-self-self
-bounds-self-self g c = omega (arith, c.requires.ended.1.2.some, c.requires.ended.1.2.most)
-
 pub returns-then-self-gt1 : goal.returns-then-self-gt1
 returns-then-self-gt1 g c = record {
   concluded = λ a E.

@@ -1,5 +1,5 @@
 use Rattle.std.proofs.Common.{◌≡◌, ◌+◌, ◌-◌, ◌<◌, ◌≤◌, length, take, get_or, sym, refl, ap, ◌∙◌, subst, arith}
-use Rattle.std.proofs.lemmas.List.{get_or_default, length-take-le}
+use Rattle.std.proofs.lemmas.List.{get_or_default}
 use Rattle.euclid.specs.Series.{Size, monomial, poly, polynomials}
 use Rattle.euclid.proofs.Lists.{poly_at, poly_take, top_undone}
 use Rattle.euclid.proofs.Sizes.{size_le}
@@ -11,25 +11,6 @@ loop-size-init g c =
     let m = g.F.Ring in
     let p = poly m.ring m.value in
     (omega arith, refl, refl, c.requires.dividend, taken_none m.laws (c.args.self.now.size + 1 - c.args.by.now.size) (p c.args.self.now.rest.now) (p c.args.by.now.rest.now) (p c.args.self.now.factor.now) (p c.args.by.now.factor.now))
-
-pub bounds-self-size : goal.bounds-self-size
-bounds-self-size g c = omega (arith, c.loop-size.invariant.0, c.loop-size.invariant.1, c.requires.sizes)
-
-pub add_shifted-requires : goal.add_shifted-requires
-add_shifted-requires g c = record { fits = omega (arith, length-take-le c.row_places.result c.args.by.now.factor.now within, c.loop-size.invariant.0, c.loop-size.invariant.2, c.requires.sizes, c.row_places.ensures.within) }
-  where
-    within : c.row_places.result ≤ length c.args.by.now.factor.now
-    within = omega (arith, c.requires.lengths, c.row_places.ensures.within)
-
-pub take_top-size-requires : goal.take_top-size-requires
-take_top-size-requires g c =
-    record {
-      fits = omega (arith, length-take-le c.row_places-in-loop-size.result c.args.by.now.rest.now within, c.loop-size.invariant.0, c.loop-size.invariant.1, c.requires.sizes, c.row_places-in-loop-size.ensures.within);
-      some = (omega (arith, c.requires.sizes), omega (arith, c.loop-size.invariant.0, c.loop-size.invariant.1, c.requires.sizes));
-    }
-  where
-    within : c.row_places-in-loop-size.result ≤ length c.args.by.now.rest.now
-    within = omega (arith, c.requires.lengths, c.row_places-in-loop-size.ensures.within)
 
 pub loop-size-preserved : goal.loop-size-preserved
 loop-size-preserved g c =

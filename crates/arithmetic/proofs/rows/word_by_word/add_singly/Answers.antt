@@ -1,4 +1,4 @@
-use Rattle.std.proofs.Common.{refl, ap, ◌∙◌, arith, take_all}
+use Rattle.std.proofs.Common.{refl, arith}
 use native.Mathlib.Nat.{add-mod-mod}
 use Rattle.arithmetic.specs.Rows.{row_sum}
 use Rattle.arithmetic.proofs.RowSums.{row_sum_more}
@@ -11,6 +11,3 @@ loop-i-init c = refl
 pub loop-i-preserved : goal.loop-i-preserved
 loop-i-preserved c =
     row_sum_more 65536 c.args.factor c.args.list.now c.args.out.now c.loop-i.out c.loop-i.i _ (omega arith) (omega arith) c.loop-i.invariant (add-mod-mod _ _ _)
-
-pub returns : goal.returns
-returns c = record { words = c.loop-i.invariant ∙ ap (λ t. row_sum 65536 c.args.factor t c.args.out.now) (take_all c.loop-i.i c.args.list.now (omega arith)) }

@@ -2,9 +2,6 @@ use Rattle.std.proofs.Common.{◌≡◌, ◌+◌, length, take, refl, ap, ◌∙
 use Rattle.arithmetic.proofs.RowSums.{part_more, length_row_sum}
 use Rattle.arithmetic.proofs.rows.word_by_word.add_vectors.Goals as goal
 
-pub loop-i-init : goal.loop-i-init
-loop-i-init g c = record { within = c.requires.within; words = λ before e. e }
-
 pub loop-i-preserved : goal.loop-i-preserved
 loop-i-preserved g c =
     let i = c.loop-i.i in

@@ -79,18 +79,19 @@ pub(crate) fn unpack_words(width: Width, bytes: &[u8], out: &mut [u16])
     requires { width.bits * length out.old ≤ 8 * length bytes.now }
     ensures { out.new ≡ part_words width.bits (length out.old) bytes.now }
 {
+    let wide = width.bits;
     let mut bits: u32 = 0;
     let mut held: u32 = 0;
     let mut at: usize = 0;
     // By index: in the inner loop a proof does not see a list that an iterator has lent out.
     for i in 0..out.len() {
-        while held < width.bits {
+        while held < wide {
             bits |= u32::from(bytes[at]) << held;
             held += 8;
             at += 1;
         }
         out[i] = width.low((bits & 0xffff) as u16);
-        bits >>= width.bits;
-        held -= width.bits;
+        bits >>= wide;
+        held -= wide;
     }
 }

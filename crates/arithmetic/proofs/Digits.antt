@@ -1,9 +1,7 @@
 -- Digits are equal where their codes are.
-use Rattle.std.proofs.Common.{◌≡◌, ℕ, zero, suc, ◌-◌, ◌%◌, ◌<◌, ◌≤◌, true, false, ℤ, pos, negsuc, neg_ℤ, nat_abs, sym, refl, ap, ◌∙◌, mod-eq_of_lt, arith, lit<}
+use Rattle.std.proofs.Common.{◌≡◌, ℕ, zero, suc, ◌-◌, ◌%◌, ◌<◌, ◌≤◌, neg_ℤ, nat_abs, sym, refl, ap, ◌∙◌, mod-eq_of_lt, arith, lit<}
 use mathlib.Core.HLevel.{is_prop→PathP}
 use native.Mathlib.Bridge.{le_prop}
-use borrow.Author.Differences.{ints}
-use lib.Signed.{lt_z}
 use Rattle.algebra.specs.Residues.{residue, residues}
 use Rattle.algebra.specs.Stands.{signed}
 use Rattle.arithmetic.specs.declared.digit.Digit.{Digit}
@@ -32,21 +30,6 @@ sign_number d = by d.code d.small ∙ digit_code d
     by (suc zero) h = refl
     by (suc (suc zero)) h = refl
     by (suc (suc (suc x))) h = absurd (omega arith)
-
--- the code of a sign, by the two tests of the code
-pub sign_above : (z : ℤ) → lt_z (pos 0) z ≡ true → (sign z).code ≡ 1
-sign_above (pos zero) e = absurd (omega (arith, ints))
-sign_above (pos (suc n)) e = refl
-sign_above (negsuc n) e = absurd (omega (arith, ints))
-
-pub sign_below : (z : ℤ) → lt_z z (pos 0) ≡ true → (sign z).code ≡ 2
-sign_below (pos n) e = absurd (omega (arith, ints))
-sign_below (negsuc n) e = refl
-
-pub sign_none : (z : ℤ) → lt_z (pos 0) z ≡ false → lt_z z (pos 0) ≡ false → (sign z).code ≡ 0
-sign_none (pos zero) e f = refl
-sign_none (pos (suc n)) e f = absurd (omega (arith, ints))
-sign_none (negsuc n) e f = absurd (omega (arith, ints))
 
 -- a digit is at most 1 in size
 pub number_small : (d : Digit) → nat_abs (number d) ≤ 1

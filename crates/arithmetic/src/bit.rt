@@ -1,5 +1,5 @@
 // Bits, the numbers modulo 2. A byte and no enum, since only then loops over bits run many at a time. Bits and digits are two types and not one
-// with a modulus as its parameter, since a parameter may be 0 or 1, for which there is no such ring.
+// with a modulus as its parameter: for 0 and 1 there is no such ring, a parameter has no bound, and so the two would share little but the field.
 ghost use Rattle.std.proofs.Common.{lit<};
 ghost use Rattle.std.specs.Prelude.{◌≡◌, ◌%◌, ◌<◌};
 ghost use Rattle.algebra.specs.Residues.{Residue, residue, residue_laws, residues};

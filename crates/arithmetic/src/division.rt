@@ -17,6 +17,7 @@ fn reduce<F: Field>(r: &mut [F], d: &[F], q: &mut [F])
 {
     let top = d.len() - 1;
     let lead = d[top].inverse();
+    // From the highest place down; a place is one in q and one in r.
     for shift in (0..r.len().saturating_sub(top)).rev() {
         let c = r[shift + top].product(lead);
         q[shift] = c;

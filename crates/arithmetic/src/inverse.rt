@@ -7,7 +7,7 @@ ghost use Rattle.euclid.specs.Method.{Ended, Taken};
 ghost use Rattle.euclid.specs.Series.{Below, Size, monomial, poly, polynomials};
 
 use crate::loops::{add_shifted, clear, fill_ones, scale_into, set_one, significant};
-use crate::rings::{Field, Ring};
+use crate::rings::Field;
 
 // The places of a row: those of its coefficients, and up to 31 zeros after them, since whole groups of 32 go faster.
 fn row_places(size: usize, room: usize) -> usize
@@ -18,7 +18,7 @@ fn row_places(size: usize, room: usize) -> usize
     if room - size < 32 {
         room
     } else {
-        (size + 31) / 32 * 32
+        size.div_ceil(32) * 32
     }
 }
 

@@ -20,6 +20,7 @@ pub(crate) fn significant<R: Ring>(p: &[R]) -> usize
     0
 }
 
+// By hand, since `fill` of slices asks that a clone cannot fail, which the bound `Copy` does not say.
 fn fill<R: Ring>(p: &mut [R], value: R)
     ensures each { (k : ℕ) → k < length p.old → poly R.ring R.value p.new k ≡ R.value value }
 {

@@ -8,7 +8,6 @@ ghost use Rattle.arithmetic.specs.Rows.{raised};
 
 use crate::cyclic::subtract_last;
 use crate::product::{Room, multiply_doubled, write_twice};
-use crate::rings::Ring;
 use crate::rows::{MOST_WORDS, RowUnit};
 
 fn negate(p: &mut [u16])
@@ -63,6 +62,7 @@ pub(crate) fn lift_inverse<U: RowUnit>(unit: &mut U, f: &[u16], u: &mut [u16])
     ensures lifted { Lifted f.now u.old u.new }
     ensures count { U.rows unit.new ≡ raised (8 * length f.now) (U.rows unit.old) }
 {
+    // Four calls and no loop, whose invariant would be these four steps again.
     refine(unit, f, u);
     refine(unit, f, u);
     refine(unit, f, u);

@@ -12,7 +12,6 @@ use crate::inverse::inverse_mod_phi;
 use crate::loops::{convert, significant};
 use crate::newton::lift_inverse;
 use crate::product::Room;
-use crate::rings::Ring;
 use crate::rows::{MOST_WORDS, RowUnit};
 
 // Each word modulo 2^width.

@@ -90,7 +90,7 @@ fn signs(rt: &HostRuntime) -> Result<(), Trouble> {
 #[derive(Drop)]
 struct Spaced<'a, T>(&'a [T]);
 
-// How an item is shown: a byte as two hexadecimal digits, a digit as a number.
+// How an item is shown, which is not as `Display` has it: a byte as two hexadecimal digits, a digit as a number.
 trait Shown {
     fn show<W: fmt::Write>(&self, f: &mut fmt::Formatter<W>) -> fmt::Result;
 }

@@ -48,7 +48,7 @@ impl Trouble {
         ).map_or_else(Trouble::NoMemory, Trouble::Said)
     }
 
-    // A file and what is wrong with it.
+    // A file, or another word of the command, and what is wrong with it.
     pub(crate) fn of_file(heap: Global, path: &str, what: &str) -> Trouble {
         format!(in heap; "{path}: {what}").map_or_else(Trouble::NoMemory, Trouble::Said)
     }

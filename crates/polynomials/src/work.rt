@@ -1,4 +1,4 @@
-// Buffers for one n, and the operations on them.
+// The operations of the library, with lists on the heap.
 use crate::fault::Fault;
 use arithmetic::{
     Digit, Field, Ring, RowUnit, inverse_mod_phi, inverse_of_words, multiply, subtract_last,

@@ -113,7 +113,7 @@ fn test_parts<U: RowUnit>(unit: &mut U, set: ParameterSet, parts: Parts<'_>) -> 
     Ok(())
 }
 
-// Tests whether a card is a key of a set.
+// Tests whether a card is a key of a set. What `test_key` promises of keys follows from this contract.
 fn test_card<U: RowUnit>(set: u8, card: &[u8], unit: &mut U) -> Result<(), Refusal>
     ensures answer { result ≡ outcome (tests set card.now) }
     ensures count { U.rows unit.new ≡ raised (cost (tests set card.now)) (U.rows unit.old) }

@@ -13,7 +13,7 @@ use crate::product::phi1_times;
 use crate::set::ParameterSet;
 use arithmetic::{Digit, Ring};
 
-// The sum of digits, modulo 3.
+// The sum of digits, modulo 3. Not one with the sum of words, which is told as a natural number.
 fn sum_digits(digits: &[Digit]) -> Digit
     ensures { Differ integers (pos 3) (number result) (sum integers (length digits.now) (coefficients digits.now)) }
 {

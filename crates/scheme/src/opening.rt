@@ -119,7 +119,7 @@ fn open_parts<U: RowUnit>(
     Ok(())
 }
 
-// Opens a sealed record under a card.
+// Opens a sealed record under a card. What `open_record` promises of keys follows from this contract.
 fn open_card<U: RowUnit>(
     set: u8,
     card: &[u8],

@@ -74,7 +74,8 @@ pub(crate) fn pack_words(width: Width, coefficients: &[u16], out: &mut [u8])
     }
 }
 
-// The same the other way. Reading each word out of three bytes was tried: it takes the bytes of a card twice as long.
+// The same the other way. To read each word out of the three bytes that hold it was tried: it is no plainer, since each place is reckoned anew,
+// and slower.
 pub(crate) fn unpack_words(width: Width, bytes: &[u8], out: &mut [u16])
     requires { width.bits * length out.old ≤ 8 * length bytes.now }
     ensures { out.new ≡ part_words width.bits (length out.old) bytes.now }

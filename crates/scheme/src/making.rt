@@ -122,19 +122,14 @@ fn write_card(set: ParameterSet, f: &[Digit], fp: &[Digit], h: &[u16], hq: &[u16
 }
 
 // Makes the card of coins. Where there is none, `out` stays as it was.
-fn make_card<U: RowUnit>(
-    unit: &mut U,
-    set: ParameterSet,
-    coins: &[u8],
-    out: &mut [u8],
-) -> Result<(), Refusal>
-    requires coins { length coins.now ≡ set.coins }
-    requires card { length out.old ≡ set.card }
+fn make_card<U: RowUnit>(unit: &mut U, coins: Coins<'_>, out: &mut [u8]) -> Result<(), Refusal>
+    requires { length out.old ≡ coins.set.card }
     ensures made { MatchResult result
-        (λ _. CardOf set.n set.width coins.now out.new)
-        (λ e. NoCard set.n set.width coins.now × ((out.new ≡ out.old) × (e ≡ NotInvertible))) }
+        (λ _. CardOf coins.entry.set.n coins.entry.set.width coins.entry.bytes.now out.new)
+        (λ e. NoCard coins.entry.set.n coins.entry.set.width coins.entry.bytes.now × ((out.new ≡ out.old) × (e ≡ NotInvertible))) }
     ensures count { U.rows unit.old ≤ U.rows unit.new }
 {
+    let set = coins.set;
     let n = set.n;
     let mut f_room = [Digit::ZERO; LONGEST];
     let mut g_room = [Digit::ZERO; LONGEST];
@@ -146,7 +141,7 @@ fn make_card<U: RowUnit>(
     let fp = &mut fp_room[..n];
     let h = &mut h_room[..n];
     let hq = &mut hq_room[..n];
-    draw_settled(Coins { set, bytes: coins }, f, g);
+    draw_settled(coins, f, g);
     invert_modulo_3(f, fp)?;
     make_public(unit, set, f, g, h)?;
     inverse_of_words(unit, set.width, h, hq).ok_or(Refusal::NotInvertible)?;
@@ -166,11 +161,9 @@ pub(crate) fn make_drawn<U: RowUnit>(
     ensures count { U.rows unit.old ≤ U.rows unit.new }
 {
     let set = ParameterSet::try_from(set)?;
-    if coins.len() != set.coins {
-        return Err(Refusal::InputLength);
-    }
+    let coins = Coins::new(set, coins)?;
     if out.len() != set.card {
         return Err(Refusal::OutputLength);
     }
-    make_card(unit, set, coins, out)
+    make_card(unit, coins, out)
 }

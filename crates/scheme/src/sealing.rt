@@ -43,11 +43,12 @@ fn encrypt<U: RowUnit>(
 }
 
 // Seals what the coins draw to the public key that stands in the bytes h of a card.
-fn seal_pair<U: RowUnit>(unit: &mut U, set: ParameterSet, h: &[u8], coins: &[u8], out: &mut [u8])
-    requires records { (length h.now ≡ set.word) × ((length coins.now ≡ set.coins) × (length out.old ≡ set.word)) }
-    ensures output { out.new ≡ sealed_record set.n set.width (balanced_polynomial set.n set.width h.now) coins.now }
-    ensures count { U.rows unit.new ≡ raised set.n (U.rows unit.old) }
+fn seal_pair<U: RowUnit>(unit: &mut U, h: &[u8], coins: Coins<'_>, out: &mut [u8])
+    requires records { (length h.now ≡ coins.set.word) × (length out.old ≡ coins.set.word) }
+    ensures output { out.new ≡ sealed_record coins.entry.set.n coins.entry.set.width (balanced_polynomial coins.entry.set.n coins.entry.set.width h.now) coins.entry.bytes.now }
+    ensures count { U.rows unit.new ≡ raised coins.entry.set.n (U.rows unit.old) }
 {
+    let set = coins.set;
     let n = set.n;
     let mut r_room = [Digit::ZERO; LONGEST];
     let mut m_room = [Digit::ZERO; LONGEST];
@@ -58,7 +59,7 @@ fn seal_pair<U: RowUnit>(unit: &mut U, set: ParameterSet, h: &[u8], coins: &[u8]
     let key = &mut key_room[..n];
     let c = &mut c_room.words[..n];
     let width = set.bits();
-    draw_both(Coins { set, bytes: coins }, r, m);
+    draw_both(coins, r, m);
     read_balanced(width, h, key);
     encrypt(unit, set, r, m, key, c);
     write_all_but_last(width, c, out);
@@ -77,13 +78,11 @@ pub(crate) fn seal_drawn<U: RowUnit>(
     ensures count { U.rows unit.new ≡ raised (cost (seals set card.now coins.now out.old)) (U.rows unit.old) }
 {
     let set = ParameterSet::try_from(set)?;
-    if card.len() != set.card || coins.len() != set.coins {
-        return Err(Refusal::InputLength);
-    }
+    let parts = split_card(card, set)?;
+    let coins = Coins::new(set, coins)?;
     if out.len() != set.word {
         return Err(Refusal::OutputLength);
     }
-    let parts = split_card(card, set)?;
-    seal_pair(unit, set, parts.h.bytes, coins, out);
+    seal_pair(unit, parts.h.bytes, coins, out);
     Ok(())
 }

@@ -17,8 +17,9 @@ returns g c =
     let out = c.args.out.now in
     let en : set.n ≡ N = found.1 in
     let ew : set.width ≡ W = found.2 in
+    let all = c.in_ok-coins.ensures in
     let answer = c.make_card.result in
     let after = c.make_card.new.out in
-    let made = at_set (λ n w. MatchResult answer (λ _. CardOf n w coins after) (λ e. NoCard n w coins × ((after ≡ out) × (e ≡ NotInvertible)))) en ew c.make_card.ensures.made in
-    let done = card_answers c.args.set coins out found.0 (c.if-coins-set.false ∙ coin_size set N W en ew) (c.if-out-set.false ∙ card_size set N W en ew) (at_set Set en ew (facts set)) answer after made in
+    let made = at_set (λ n w. MatchResult answer (λ _. CardOf n w coins after) (λ e. NoCard n w coins × ((after ≡ out) × (e ≡ NotInvertible)))) en ew (rw (all.1, all.2) at c.make_card.ensures.made) in
+    let done = card_answers c.args.set coins out found.0 (all.0 ∙ coin_size set N W en ew) (c.if-out-set.false ∙ card_size set N W en ew) (at_set Set en ew (facts set)) answer after made in
     record { answer = done.0; output = done.1; count = c.make_card.ensures.count }

@@ -4,11 +4,11 @@ use Rattle.arithmetic.proofs.Rooms.{in_room, in_zeros}
 use Rattle.scheme.proofs.sealing.seal_pair.Goals as goal
 
 pub encrypt-requires-clause-digits : goal.encrypt-requires-clause-digits
-encrypt-requires-clause-digits g c = let few = c.args.set.length.1 in (c.draw_both.auto.first ∙ in_room _ few, c.draw_both.auto.second ∙ in_room _ few)
+encrypt-requires-clause-digits g c = let few = c.args.coins.set.length.1 in (c.draw_both.auto.first ∙ in_room _ few, c.draw_both.auto.second ∙ in_room _ few)
 
 pub returns-clause-output : goal.returns-clause-output
 returns-clause-output g c =
-    let set = c.args.set in
-    sealed_bytes set.n set.width c.args.coins.now c.args.h.now c.read_balanced.new.out c.encrypt.new.c c.write_all_but_last.new.out c.draw_both.new.first c.draw_both.new.second
+    let set = c.args.coins.set in
+    sealed_bytes set.n set.width c.args.coins.bytes.now c.args.h.now c.read_balanced.new.out c.encrypt.new.c c.write_all_but_last.new.out c.draw_both.new.first c.draw_both.new.second
     set.narrow (c.encrypt.auto.c ∙ in_zeros _ c.new-c_room.ensures.zeros set.length.1) (in_room _ set.length.1)
     c.draw_both.ensures.first c.draw_both.ensures.second (rw c.bits-width.ensures at c.read_balanced.ensures.words) c.encrypt.ensures.ciphertext (rw c.bits-width.ensures at c.write_all_but_last.ensures.output)

@@ -1,8 +1,7 @@
 -- Loops over lists of words and digits: what one more element makes of what holds of those before it.
-use Rattle.std.proofs.Common.{◌≡◌, ℕ, suc, ◌+◌, ◌-◌, ◌*◌, ◌/◌, ◌%◌, ◌^◌, ◌<◌, ◌≤◌, Bool, true, false, cond, leb, ◌≢◌, List, [], ◌∷◌, length, get_or, set, ℤ, pos, negsuc, ◌+ℤ◌, ◌*ℤ◌, neg_ℤ, nat_abs, sym, refl, ap, ◌∙◌, subst, mod-lt, add-one, arith, get_or-set_other, get_or-set_same, pow_pos, pow_mono, pow-add, below_more, le-leb}
+use Rattle.std.proofs.Common.{◌≡◌, ℕ, suc, ◌+◌, ◌-◌, ◌*◌, ◌%◌, ◌^◌, ◌<◌, ◌≤◌, cond, ◌≢◌, List, [], ◌∷◌, length, get_or, set, ℤ, pos, ◌+ℤ◌, ◌*ℤ◌, neg_ℤ, sym, refl, ap, subst, mod-lt, add-one, arith, get_or-set_other, get_or-set_same, pow_pos, below_more, le-leb}
 use borrow.Author.Differences.{ints}
 use borrow.Author.Tests.{lt-leb}
-use lib.Bits.{bit_and}
 use Rattle.algebra.specs.Radix.{Under}
 use Rattle.algebra.specs.Ring.{Agree, Differ, integers, sum, divided}
 use Rattle.algebra.specs.Polynomials.{Poly, SameMod, centre, scale}
@@ -12,9 +11,7 @@ use Rattle.algebra.proofs.Integers.{mod_laws, equal_mod, divides_mod}
 use Rattle.algebra.proofs.Naturals.{wrapped, congruent_out}
 use Rattle.algebra.proofs.Solver.{x, one, ◌⊞◌, ◌⊠◌, ◌⊟◌, minus, follows}
 use Rattle.algebra.proofs.Sums.{sum_none, sum_more}
-use Rattle.algebra.proofs.WordBits.{masked}
 use Rattle.algebra.proofs.WordInverses.{width_divides}
-use Rattle.std.proofs.lemmas.Nat.{one_shl}
 
 -- what holds of each element below i holds of each below i + 1, where the element at i is written so
 pub filled_more :
@@ -106,85 +103,15 @@ module _ (q a : ℕ) where
   centre_low h = ap (λ t. cond t (neg_ℤ (pos (q - a % q))) (pos (a % q))) (lt-leb q (a % q + a % q) h)
 
   -- the remainder modulo 3 of what is below half of q
-  code_low : a % q + a % q < q → Differ integers (pos 3) (pos (a % q % 3)) (centre q (pos a))
+  pub code_low : a % q + a % q < q → Differ integers (pos 3) (pos (a % q % 3)) (centre q (pos a))
   code_low h = (mod_laws 3).tr (congruent_out 3 (a % q % 3) (a % q) (wrapped 3 (a % q))) (equal_mod 3 (sym (centre_low h)))
 
   -- and of what is not
-  code_high : 0 < q → q ≤ a % q + a % q → Differ integers (pos 3) (pos ((a % q + 2 * q) % 3)) (centre q (pos a))
+  pub code_high : 0 < q → q ≤ a % q + a % q → Differ integers (pos 3) (pos ((a % q + 2 * q) % 3)) (centre q (pos a))
   code_high some h =
       let below : a % q < q = mod-lt a some in
       let whole : pos (a % q + 2 * q) ≡ neg_ℤ (pos (q - a % q)) +ℤ pos 3 *ℤ pos q = omega (arith, ints) in
       (mod_laws 3).tr (congruent_out 3 ((a % q + 2 * q) % 3) (a % q + 2 * q) (wrapped 3 (a % q + 2 * q))) ((mod_laws 3).tr (record { by = pos q; is = whole }) (equal_mod 3 (sym (centre_high h))))
-
-  -- -1
-  centre_minus_one : 2 ≤ q → a % q ≡ q - 1 → centre q (pos a) ≡ negsuc 0
-  centre_minus_one two e = let one_left : q - a % q ≡ 1 = omega arith in centre_high (omega arith) ∙ ap (λ (n : ℕ). neg_ℤ (pos n)) one_left
-
-  -- 0 and 1
-  centre_small_word : 4 ≤ q → a % q < 2 → centre q (pos a) ≡ pos (a % q)
-  centre_small_word four h = centre_low (omega arith)
-
-  -- any other is above 1 in size
-  centre_large : 4 ≤ q → a % q ≢ q - 1 → 2 ≤ a % q → nat_abs (centre q (pos a)) ≤ 1 → ⊥
-  centre_large four ne two h = by (leb q (a % q + a % q)) h
-    where
-      below : a % q < q
-      below = mod-lt a (omega arith)
-
-      by : (t : Bool) → nat_abs (cond t (neg_ℤ (pos (q - a % q))) (pos (a % q))) ≤ 1 → ⊥
-      by true g = omega (arith, ints, below)
-      by false g = omega (arith, ints)
-
--- ---- words of which the low w bits are read, by the mask of code
-module _ (w a : ℕ) (some : 1 ≤ w) (few : w ≤ 16) where
-  -- what the mask leaves
-  low_is : bit_and a ((1 * 2 ^ w) % 2 ^ 32 - 1) ≡ a % 2 ^ w
-  low_is = masked w a (omega arith)
-
-  -- the modulus, as code shifts it
-  top_is : (1 * 2 ^ w) % 2 ^ 32 ≡ 2 ^ w
-  top_is = one_shl w 32 (omega arith)
-
-  -- it is even
-  halves : 2 ^ w ≡ 2 * 2 ^ (w - 1)
-  halves = let e : w ≡ 1 + (w - 1) = omega arith in ap (λ (i : ℕ). 2 ^ i) e ∙ pow-add 2 1 (w - 1)
-
-  -- half the modulus
-  half : (1 * 2 ^ w) % 2 ^ 32 / 2 ≡ 2 ^ (w - 1)
-  half = ap (λ (y : ℕ). y / 2) (top_is ∙ halves) ∙ omega arith
-
-  -- the code of a word below it
-  pub coded_low :
-      (code : ℕ) → bit_and a ((1 * 2 ^ w) % 2 ^ 32 - 1) < (1 * 2 ^ w) % 2 ^ 32 / 2 → code ≡ bit_and a ((1 * 2 ^ w) % 2 ^ 32 - 1) % 3
-      → (code < 3) × Differ integers (pos 3) (pos code) (centre (2 ^ w) (pos a))
-  coded_low code h e =
-      let is : code ≡ a % 2 ^ w % 3 = e ∙ ap (λ (y : ℕ). y % 3) low_is in
-      let low : a % 2 ^ w + a % 2 ^ w < 2 ^ w = omega (arith, h, low_is, half, halves) in
-      (omega (arith, is), subst (λ (y : ℕ). Differ integers (pos 3) (pos y) (centre (2 ^ w) (pos a))) (sym is) (code_low (2 ^ w) a low))
-
-  -- and from there on
-  pub coded_high :
-      (code : ℕ) → (1 * 2 ^ w) % 2 ^ 32 / 2 ≤ bit_and a ((1 * 2 ^ w) % 2 ^ 32 - 1) → code ≡ (bit_and a ((1 * 2 ^ w) % 2 ^ 32 - 1) + 2 * ((1 * 2 ^ w) % 2 ^ 32)) % 3
-      → (code < 3) × Differ integers (pos 3) (pos code) (centre (2 ^ w) (pos a))
-  coded_high code h e =
-      let is : code ≡ (a % 2 ^ w + 2 * 2 ^ w) % 3 = e ∙ ap (λ (y : ℕ). (y + 2 * ((1 * 2 ^ w) % 2 ^ 32)) % 3) low_is ∙ ap (λ (y : ℕ). (a % 2 ^ w + 2 * y) % 3) top_is in
-      let high : 2 ^ w ≤ a % 2 ^ w + a % 2 ^ w = omega (arith, h, low_is, half, halves) in
-      (omega (arith, is), subst (λ (y : ℕ). Differ integers (pos 3) (pos y) (centre (2 ^ w) (pos a))) (sym is) (code_high (2 ^ w) a (pow_pos w) high))
-
-  -- all bits set: -1
-  pub bits_minus_one : bit_and a ((1 * 2 ^ w) % 2 ^ 32 - 1) ≡ (1 * 2 ^ w) % 2 ^ 32 - 1 → centre (2 ^ w) (pos a) ≡ negsuc 0
-  bits_minus_one e = centre_minus_one (2 ^ w) a (pow_mono some) (omega (arith, e, low_is, top_is))
-
-  module _ (two : 2 ≤ w) where
-    -- 0 and 1
-    pub bits_small : bit_and a ((1 * 2 ^ w) % 2 ^ 32 - 1) < 2 → centre (2 ^ w) (pos a) ≡ pos (bit_and a ((1 * 2 ^ w) % 2 ^ 32 - 1))
-    bits_small h = centre_small_word (2 ^ w) a (pow_mono two) (omega (arith, h, low_is)) ∙ ap pos (sym low_is)
-
-    -- any other
-    pub bits_large :
-        (bit_and a ((1 * 2 ^ w) % 2 ^ 32 - 1) ≡ (1 * 2 ^ w) % 2 ^ 32 - 1 → ⊥) → 2 ≤ bit_and a ((1 * 2 ^ w) % 2 ^ 32 - 1)
-        → nat_abs (centre (2 ^ w) (pos a)) ≤ 1 → ⊥
-    bits_large ne h = centre_large (2 ^ w) a (pow_mono two) (λ e. ne (low_is ∙ e ∙ ap (λ (y : ℕ). y - 1) (sym top_is))) (omega (arith, h, low_is))
 
 -- the same modulo 65536 are the same centred modulo 2^w
 pub centre_words : (w n : ℕ) (u v : Poly) → w ≤ 16 → SameMod 65536 n u v → Agree integers n (λ k. centre (2 ^ w) (u k)) (λ k. centre (2 ^ w) (v k))

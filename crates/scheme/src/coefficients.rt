@@ -26,7 +26,7 @@ fn centre_digit(set: ParameterSet, word: u16) -> Digit
     ensures { Differ integers (pos 3) (number result) (centre (2 ^ set.width) (pos word)) }
 {
     let modulus = 1u32 << set.width;
-    let low = u32::from(word) & (modulus - 1);
+    let low = u32::from(set.bits().low(word));
     // From half the modulus on, low - modulus is meant, and that is low + 2 * modulus modulo 3.
     let number = if low < modulus / 2 {
         low
@@ -60,12 +60,11 @@ pub(crate) fn reduce_modulo_3(words: &[u16], out: &mut [Digit])
 fn read_sign(set: ParameterSet, word: u16) -> Option<Digit>
     ensures { MatchOption result (unsigned_abs (centre (2 ^ set.width) (pos word)) ≤ 1 → ⊥) (λ d. number d ≡ centre (2 ^ set.width) (pos word)) }
 {
-    let mask = (1u32 << set.width) - 1;
-    let low = u32::from(word) & mask;
-    match low {
+    let width = set.bits();
+    match width.low(word) {
         0 => Some(Digit::ZERO),
         1 => Some(Digit::ONE),
-        _ if low == mask => Some(Digit::MINUS_ONE),
+        low if low == width.mask() => Some(Digit::MINUS_ONE),
         _ => None,
     }
 }

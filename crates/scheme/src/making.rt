@@ -24,9 +24,9 @@ fn triple(set: ParameterSet, words: &[u16], out: &mut [u16])
     ensures small { Under (2 ^ set.width) out.new }
     ensures tripled { SameMod (2 ^ set.width) (length words.now) (integers_of out.new) (scale (pos 3) (integers_of words.now)) }
 {
-    let mask = (1u32 << set.width) - 1;
+    let width = set.bits();
     for (i, word) in words.iter().enumerate() {
-        out[i] = (3 * u32::from(*word) & mask) as u16;
+        out[i] = width.low(word.wrapping_mul(3));
     }
 }
 

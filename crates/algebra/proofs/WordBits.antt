@@ -1,12 +1,14 @@
 -- Regrouping at bases that are powers of two: what a shift and a mask do to the bits held.
-use Rattle.std.proofs.Common.{◌≡◌, ℕ, ◌+◌, ◌-◌, ◌*◌, ◌/◌, ◌%◌, ◌^◌, ◌<◌, ◌≤◌, List, length, get_or, set, ap, ◌∙◌, subst, mod-lt, mul_comm, add_comm, mul-le-mul_left, mul-one, mul-add, arith}
-use lib.Bits.{bit_and, bit_or}
-use Rattle.std.proofs.lemmas.Nat.{pow_pos, pow-add, one_shl, and_mask, shl_whole, shr_below, mul-add-lt, or_comm, or_shifted}
+use Rattle.std.proofs.Common.{◌≡◌, ℕ, ◌+◌, ◌-◌, ◌*◌, ◌/◌, ◌%◌, ◌^◌, ◌<◌, ◌≤◌, List, length, get_or, set, sym, ap, ◌∙◌, subst, mod-lt, mul_comm, add_comm, mul-le-mul_left, mul-one, mul-add, arith}
+use lib.Bits.{bit_or}
+use Rattle.std.proofs.lemmas.Nat.{pow_pos, pow-add, shl_whole, shr_below, mul-add-lt, or_comm, or_shifted}
+use Rattle.algebra.proofs.Regrouping.{mod_of_mod}
+use Rattle.algebra.proofs.WordInverses.{width_divides}
 use Rattle.algebra.proofs.Radix.{Regroups, regroups_read, regroups_write}
 
--- the mask of w bits, as code makes it
-pub masked : (w x : ℕ) → w < 32 → bit_and x ((1 * 2 ^ w) % 2 ^ 32 - 1) ≡ x % 2 ^ w
-masked w x h = rw (one_shl w 32 h) (and_mask x w)
+-- the low w bits of a number are those of its low word
+pub low_of_word : (w x : ℕ) → w ≤ 16 → x % 65536 % 2 ^ w ≡ x % 2 ^ w
+low_of_word w x few = ap (λ (m : ℕ). x % m % 2 ^ w) (sym (width_divides w few)) ∙ mod_of_mod x (2 ^ w) (2 ^ (16 - w)) (pow_pos w) (pow_pos (16 - w))
 
 -- the low w bits of x, moved up to the place `held`
 pub moved : (w held x : ℕ) → w + held ≤ 32 → (x % 2 ^ w) * 2 ^ held % 2 ^ 32 ≡ (x % 2 ^ w) * 2 ^ held

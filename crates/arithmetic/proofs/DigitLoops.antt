@@ -1,5 +1,6 @@
 -- Loops over lists of digits: what one more digit makes of what holds of those before it.
-use Rattle.std.proofs.Common.{◌≡◌, ℕ, zero, suc, ◌+◌, ◌-◌, ◌/◌, ◌%◌, ◌<◌, List, length, get_or, set, pos, ◌+ℤ◌, neg_ℤ, sym, refl, ap, ◌∙◌, subst, add-one, arith, lit<}
+use Rattle.std.proofs.Common.{◌≡◌, ℕ, zero, suc, ◌+◌, ◌<◌, List, length, get_or, set, pos, ◌+ℤ◌, neg_ℤ, sym, refl, ap, ◌∙◌, subst, add-one, arith, lit<}
+use Rattle.std.specs.Int.{cast_unsigned, w16}
 use Rattle.std.proofs.lemmas.List.{get_or_read}
 use Rattle.algebra.specs.Ring.{Agree, Differ, integers, sum, divided}
 use Rattle.algebra.specs.Residues.{residue, residues}
@@ -24,11 +25,11 @@ pub number_read : (ds : List Digit) (i : ℕ) (d : Digit) → i < length ds → 
 number_read ds i d h e = ap number (get_or_read ds i d h e (digit 0))
 
 -- ---- digits as words
--- a digit's word, by its code's two bits
-signed_word : (d : Digit) → Differ integers (pos 65536) (pos ((d.code % 2 + (65536 - d.code / 2)) % 65536)) (number d)
+-- a digit's word
+signed_word : (d : Digit) → Differ integers (pos 65536) (pos (cast_unsigned w16 (number d))) (number d)
 signed_word d = by d.code d.small
   where
-    by : (x : ℕ) → x < 3 → Differ integers (pos 65536) (pos ((x % 2 + (65536 - x / 2)) % 65536)) (signed x)
+    by : (x : ℕ) → x < 3 → Differ integers (pos 65536) (pos (cast_unsigned w16 (signed x))) (signed x)
     by zero h = equal_mod 65536 refl
     by (suc zero) h = equal_mod 65536 refl
     by (suc (suc zero)) h = record { by = pos 1; is = refl }
@@ -36,12 +37,12 @@ signed_word d = by d.code d.small
 
 -- one digit more, as a word
 pub signed_more :
-    (ds : List Digit) (out : List ℕ) (i : ℕ) (d : Digit) (c x y : ℕ) → i < length ds → i < length out → d ≡ get_or ds i d → c ≡ d.code → x ≡ c % 2 → y ≡ c / 2
+    (ds : List Digit) (out : List ℕ) (i : ℕ) (d : Digit) (word : ℕ) → i < length ds → i < length out → d ≡ get_or ds i d → word ≡ cast_unsigned w16 (number d)
     → ((k : ℕ) → k < i → Differ integers (pos 65536) (pos (get_or out k 0)) (coefficients ds k))
-    → (k : ℕ) → k < i + 1 → Differ integers (pos 65536) (pos (get_or (set out i ((x + (65536 - y)) % 65536)) k 0)) (coefficients ds k)
-signed_more ds out i d c x y h room e p q r inv =
-    filled_more (λ k w. Differ integers (pos 65536) (pos w) (coefficients ds k)) 0 out i ((x + (65536 - y)) % 65536) room
-    (rw (q, r, p, ← number_read ds i d h e) (signed_word d)) inv
+    → (k : ℕ) → k < i + 1 → Differ integers (pos 65536) (pos (get_or (set out i word) k 0)) (coefficients ds k)
+signed_more ds out i d word h room e p inv =
+    filled_more (λ k w. Differ integers (pos 65536) (pos w) (coefficients ds k)) 0 out i word room
+    (rw (p, ← number_read ds i d h e) (signed_word d)) inv
 
 -- ---- sums
 -- one digit more is added

@@ -16,8 +16,7 @@ pub(crate) fn signed_words(digits: &[Digit], out: &mut [u16])
     ensures { SameMod 65536 (length digits.now) (integers_of out.new) (coefficients digits.now) }
 {
     for (i, digit) in digits.iter().enumerate() {
-        let code = digit.code();
-        out[i] = u16::from(code % 2).wrapping_sub(u16::from(code / 2));
+        out[i] = i16::from(i8::from(*digit)).cast_unsigned();
     }
 }
 

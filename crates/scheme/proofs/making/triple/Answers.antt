@@ -1,6 +1,5 @@
-use Rattle.std.proofs.Common.{◌≡◌, ℕ, ◌-◌, ◌*◌, ◌%◌, ◌^◌, get_or, sym, ap, ◌∙◌, arith, pow_pos}
-use Rattle.algebra.proofs.Regrouping.{mod_of_mod}
-use Rattle.algebra.proofs.WordInverses.{width_divides}
+use Rattle.std.proofs.Common.{◌≡◌, ℕ, ◌*◌, ◌%◌, ◌^◌, get_or, ap, ◌∙◌, arith, pow_pos}
+use Rattle.algebra.proofs.WordBits.{low_of_word}
 use Rattle.algebra.proofs.WordLoops.{filled_more, scaled}
 use Rattle.scheme.proofs.making.triple.Goals as goal
 
@@ -13,7 +12,7 @@ loop-i-preserved c =
     let three : x * 3 ≡ 3 * x = omega arith in
     let low : c.low.result ≡ x * 3 % 65536 % 2 ^ w = rw c.bits-width.ensures at c.low.ensures in
     filled_more (λ k y. y ≡ 3 * get_or xs k 0 % 2 ^ w) 0 s.out s.i _ (omega arith)
-    (low ∙ ap (λ (m : ℕ). x * 3 % m % 2 ^ w) (sym (width_divides w c.args.set.narrow)) ∙ mod_of_mod (x * 3) (2 ^ w) (2 ^ (16 - w)) (pow_pos w) (pow_pos (16 - w)) ∙ ap (λ (a : ℕ). a % 2 ^ w) three) s.invariant
+    (low ∙ low_of_word w (x * 3) c.args.set.narrow ∙ ap (λ (a : ℕ). a % 2 ^ w) three) s.invariant
 
 pub returns : goal.returns
 returns c =

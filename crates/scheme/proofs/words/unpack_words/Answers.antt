@@ -1,16 +1,9 @@
-use Rattle.std.proofs.Common.{◌≡◌, ◌+◌, ◌-◌, ◌*◌, ◌%◌, ◌^◌, ◌<◌, ◌≤◌, ℕ, length, get_or, sym, ap, ◌∙◌, mod-eq_of_lt, arith, rules}
-use lib.Bits.{bit_and, bit_or}
-use Rattle.std.proofs.lemmas.Nat.{shl_whole, and_mask, pow_pos, pow-add}
-use Rattle.algebra.proofs.Regrouping.{mod_of_mod}
+use Rattle.std.proofs.Common.{◌≡◌, ◌+◌, ◌*◌, ◌%◌, ◌^◌, ◌<◌, length, get_or, sym, ap, ◌∙◌, mod-eq_of_lt, arith, rules}
+use lib.Bits.{bit_or}
+use Rattle.std.proofs.lemmas.Nat.{shl_whole, and_mask}
 use Rattle.algebra.proofs.Radix.{Regroups, regroups_all}
-use Rattle.algebra.proofs.WordBits.{bits_read, bits_write, times_more, times_below}
+use Rattle.algebra.proofs.WordBits.{low_of_word, bits_read, bits_write, times_more, times_below}
 use Rattle.scheme.proofs.words.unpack_words.Goals as goal
-
--- the low word of the bits has all bits that a word keeps
-low_word : (w x r : ℕ) → w ≤ 16 → r ≡ bit_and x 0xffff % 2 ^ w → r ≡ x % 2 ^ w
-low_word w x r h e =
-    let p : 2 ^ w * 2 ^ (16 - w) ≡ 65536 = sym (pow-add 2 w (16 - w)) ∙ ap (λ k. 2 ^ k) (let q : w + (16 - w) ≡ 16 = omega arith in q) in
-    e ∙ ap (λ k. k % 2 ^ w) (and_mask x 16) ∙ ap (λ k. x % k % 2 ^ w) (sym p) ∙ mod_of_mod x (2 ^ w) (2 ^ (16 - w)) (pow_pos w) (pow_pos (16 - w))
 
 pub loop-held-init : goal.loop-held-init
 loop-held-init c = let s = c.loop-i in (s.invariant.0, omega arith, omega arith, s.invariant.3)
@@ -46,7 +39,8 @@ pub loop-i-preserved : goal.loop-i-preserved
 loop-i-preserved c =
     let s = c.loop-held in
     let r = bits_write 256 c.args.width.bits s.bits s.held s.at c.loop-i.i c.args.bytes.now c.loop-i.out c.loop-held-test.false s.invariant.0 (omega arith) s.invariant.3 in
-    rw (low_word c.args.width.bits s.bits c.low.result (omega arith) c.low.ensures) (r.0, omega arith, omega (arith, times_more c.args.width.bits c.loop-i.i), r.1)
+    let low : c.low.result ≡ s.bits % 2 ^ c.args.width.bits = c.low.ensures ∙ ap (λ k. k % 2 ^ c.args.width.bits) (and_mask s.bits 16) ∙ low_of_word c.args.width.bits s.bits c.args.width.narrow in
+    rw low (r.0, omega arith, omega (arith, times_more c.args.width.bits c.loop-i.i), r.1)
 
 pub returns : goal.returns
 returns c =

@@ -4,7 +4,7 @@ use lib.Dec.{nleb→lt}
 use borrow.Author.Differences.{ints}
 use Rattle.algebra.specs.Ring.{Differ, integers}
 use Rattle.algebra.specs.Polynomials.{as_word, centre}
-use Rattle.algebra.proofs.Integers.{mod_laws, equal_mod, divides_mod, close}
+use Rattle.algebra.proofs.Integers.{mod_laws, equal_mod, close}
 use Rattle.algebra.proofs.Naturals.{wrapped, neg_wrapped, congruent_out, congruent_in, naturals_hom}
 
 pub as_word_below : (m : ℕ) → 0 < m → (z : ℤ) → as_word m z < m
@@ -22,10 +22,6 @@ word_same q h y z d =
     sym (mod-eq_of_lt (as_word_below q h y))
     ∙ (congruent_in q (as_word q y) (as_word q z) (M.tr (as_word_is q h y) (M.tr d (M.sy (as_word_is q h z))))).rem
     ∙ mod-eq_of_lt (as_word_below q h z)
-
--- the word modulo what divides m
-pub word_divides : (q c m : ℕ) (z : ℤ) → 0 < q → 0 < m → q * c ≡ m → as_word m z % q ≡ as_word q z
-word_divides q c m z h some e = word_same q h (pos (as_word m z)) z (divides_mod q c m e (as_word_is m some z))
 
 -- ---- the one nearest to 0
 pub centre_is : (q : ℕ) → 0 < q → (z : ℤ) → Differ integers (pos q) (centre q z) z

@@ -1,8 +1,7 @@
 -- The theory up to a congruence, at rings under real equality.
-use Rattle.std.proofs.Common.{◌≡◌, ℕ, ◌+◌, sym, refl, ap, ◌∙◌, ap₂, add-one}
-use Rattle.algebra.specs.Ring.{Laws, sum}
+use Rattle.std.proofs.Common.{sym, refl, ap, ◌∙◌, ap₂}
+use Rattle.algebra.specs.Ring.{Laws}
 use Rattle.algebra.specs.Exact.{Ops as Real, Laws as RealLaws, exact}
-use Rattle.algebra.proofs.Sums.{sum_more}
 
 module _ {A : Type 0} {o : Real A} (L : RealLaws o) where
   pub exact_laws : Laws (exact o)
@@ -22,7 +21,3 @@ module _ {A : Type 0} {o : Real A} (L : RealLaws o) where
     mul_e = L.times_unit;
     mul-add = L.times_plus;
   }
-
-  -- one more summand
-  pub sum_step : (j : ℕ) (f : ℕ → A) (t p : A) → t ≡ sum (exact o) j f → p ≡ f j → o.plus t p ≡ sum (exact o) (j + 1) f
-  sum_step j f t p e h = ap₂ o.plus e h ∙ sym (sum_more exact_laws j f) ∙ ap (λ (i : ℕ). sum (exact o) i f) (sym (add-one j))

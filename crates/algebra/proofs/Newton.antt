@@ -2,12 +2,12 @@
 use Rattle.std.proofs.Common.{◌≡◌, ℕ, ◌*◌, ◌<◌, [], ◌∷◌, pos, sym, ◌∙◌}
 use native.Mathlib.Decide.{dec_lt}
 use Rattle.algebra.specs.Ring.{Ops, Laws, Hom, Agree, Differ, integers, quotient, conv, power, cyclic, reduced, ones, scalar, times_one, refined}
-use Rattle.algebra.specs.Polynomials.{Poly, times, SamePhi, InverseMod, refine, refine_four}
+use Rattle.algebra.specs.Polynomials.{Poly, times, InverseMod, refine, refine_four}
 use Rattle.algebra.specs.Theorems.{Inverses}
 use Rattle.algebra.proofs.Derived.{add_left, mul_left}
 use Rattle.algebra.proofs.Solver.{x, one, nat, ◌⊞◌, ◌⊠◌, ◌⊟◌, minus, follows}
 use Rattle.algebra.proofs.Quotients.{up_to}
-use Rattle.algebra.proofs.Integers.{integer_laws, mod_laws}
+use Rattle.algebra.proofs.Integers.{integer_laws}
 use Rattle.algebra.proofs.Cyclic.{cyclic_laws, scale_is}
 use Rattle.algebra.proofs.Phi.{reduced_laws}
 use Rattle.algebra.proofs.Homs.{hom_cyclic}
@@ -81,10 +81,6 @@ refine_inverse n k f u p =
     let up = up_to (cyclic_laws integer_laws n) (ones integers) kk in
     join_phi integer_laws n (pos (k * k)) (times n f (refine n f u)) (power integers 0)
     (record { by = t.by; is = L.tr t.is (L.add_cong (L.rfl (power integers 0)) (L.mul_cong up (L.rfl t.by))) })
-
--- and so does what is the same as the step's result
-pub refine_inverse_same : (n k : ℕ) (f u v : Poly) → InverseMod k n f u → SamePhi (k * k) n v (refine n f u) → InverseMod (k * k) n f v
-refine_inverse_same n k f u v i s = let P = reduced_laws (mod_laws (k * k)) n in P.tr (mul_left P f s) (refine_inverse n k f u i)
 
 four : (n : ℕ) (f u : Poly) → InverseMod 2 n f u → InverseMod 65536 n f (refine_four n f u)
 four n f u i = refine_inverse n 256 f _ (refine_inverse n 16 f _ (refine_inverse n 4 f _ (refine_inverse n 2 f u i)))

@@ -58,17 +58,10 @@ there_and_back a b m xs ha hb fits =
     let small : numeral a xs < b ^ m = lt_of_lt_of_le (numeral_lt a ha xs) fits in
     rw (numeral_digits b hb m (numeral a xs), mod-eq_of_lt small) (digits_numeral a ha xs)
 
--- The other way: of the numeral of the digits of base b, what is left modulo a ^ n.
-pub back_and_there : (a b n m : ℕ) (xs : List ℕ) → 0 < a → digits b m (numeral a (digits a n (numeral b xs))) ≡ digits b m (numeral b xs % a ^ n)
-back_and_there a b n m xs ha = ap (digits b m) (numeral_digits a ha n (numeral b xs))
-
 -- A loop that regroups digits of base a into digits of base b. The list `out` is filled up to `at`, and `xs` is read up to `i`; the digits to follow are
 -- those of acc + p * r, where acc is what is held, r is what is yet to be read, and p is its place.
 abbrev pub Regroups : ℕ → ℕ → ℕ → ℕ → ℕ → ℕ → List ℕ → List ℕ → Type 0
 Regroups a b acc p i at xs out = take at out ++ digits b (length out - at) (acc + p * numeral a (drop i xs)) ≡ digits b (length out) (numeral a xs)
-
-pub regroups_none : (a b : ℕ) (xs out : List ℕ) → Regroups a b 0 1 0 0 xs out
-regroups_none a b xs out = ap (λ v. digits b (length out - 0) v) (omega arith) ∙ ap (λ n. digits b n (numeral a xs)) (omega arith)
 
 -- one digit is read
 pub regroups_read :

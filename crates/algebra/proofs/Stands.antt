@@ -1,9 +1,9 @@
 -- Residues stand for integers, and what holds of values that do.
 use Rattle.std.proofs.Common.{◌≡◌, ℕ, zero, suc, ◌+◌, ◌-◌, ◌*◌, ◌%◌, ◌<◌, ◌≤◌, ℤ, pos, negsuc, nat_abs, sym, refl, ap, ◌∙◌, mod-eq_of_lt, arith}
-use Rattle.algebra.specs.Ring.{Agree, Differ, integers, sum, conv, power, reduced, reduce, divided, refined}
+use Rattle.algebra.specs.Ring.{Agree, Differ, integers, sum, conv, power, reduced, reduce}
 use Rattle.algebra.specs.Exact.{Ops, Laws, exact}
-use Rattle.algebra.specs.Residues.{Residue, residues, same_residue}
-use Rattle.algebra.specs.Polynomials.{Poly, times, SameMod, SamePhi, InverseMod, refine, as_word}
+use Rattle.algebra.specs.Residues.{residues, same_residue}
+use Rattle.algebra.specs.Polynomials.{times, SameMod, SamePhi, InverseMod, as_word}
 use Rattle.algebra.specs.Stands.{Stands, numbers, residue_number, signed, digit_number}
 use Rattle.algebra.proofs.Integers.{mod_laws, equal_mod}
 use Rattle.algebra.proofs.Naturals.{congruent_in, congruent_out, wrapped, neg_wrapped, naturals_hom}
@@ -12,7 +12,6 @@ use Rattle.algebra.proofs.Phi.{reduced_laws, reduce_same, same_reduce}
 use Rattle.algebra.proofs.Homs.{hom_sum, hom_cyclic, hom_reduced}
 use Rattle.algebra.proofs.Classes.{as_word_is, as_word_below}
 use Rattle.algebra.proofs.Polynomials.{mod_phi}
-use Rattle.algebra.proofs.Newton.{hom_refined}
 use Rattle.algebra.proofs.Exact.{exact_laws}
 
 pub residues_stand : (m : ℕ) (h : 1 < m) → Stands (residues m h) m (residue_number m)
@@ -67,16 +66,10 @@ signed_small zero = omega arith
 signed_small (suc zero) = omega arith
 signed_small (suc (suc d)) = omega arith
 
-pub digit_small : (x : Residue 3) → nat_abs (digit_number x) ≤ 1
-digit_small x = signed_small x.0
-
 -- ---- of values that stand for integers
 module _ {A : Type 0} {o : Ops A} {k : ℕ} {number : A → ℤ} (S : Stands o k number) where
   pub number_sum : (n : ℕ) (y : ℕ → A) → Differ integers (pos k) (number (sum (exact o) n y)) (sum integers n (numbers number y))
   number_sum n y = hom_sum (exact o) (mod_laws k) number S.hom.h_o S.hom.h_add n y
-
-  pub number_divided : (y : ℕ → A) (i : ℕ) → Differ integers (pos k) (number (divided (exact o) y i)) (divided integers (numbers number y) i)
-  number_divided y i = let M = mod_laws k in M.tr (S.hom.h_neg (sum (exact o) (suc i) y)) (M.neg_cong (number_sum (suc i) y))
 
   pub number_less : (a b : A) → Differ integers (pos k) (number (o.plus a (o.minus b))) (integers.add (number a) (integers.neg (number b)))
   number_less a b = let M = mod_laws k in M.tr (S.hom.h_add a (o.minus b)) (M.add_cong (M.rfl (number a)) (S.hom.h_neg b))
@@ -94,9 +87,6 @@ module _ {A : Type 0} {o : Ops A} {k : ℕ} {number : A → ℤ} (S : Stands o k
 
     pub numbers_power : SameMod k n (numbers number (power (exact o) 0)) (power integers 0)
     numbers_power = (hom_cyclic (exact_laws L) (mod_laws k) number S.hom n).h_e
-
-    pub numbers_refined : (f u : ℕ → A) → SameMod k n (numbers number (refined (exact o) n f u)) (refine n (numbers number f) (numbers number u))
-    numbers_refined f u = hom_refined (exact_laws L) (mod_laws k) number S.hom n f u
 
     -- classes up to multiples of 1 + x + .. + x^(n-1)
     pub numbers_phi : {u v : ℕ → A} → (reduced (exact o) n).same u v → SamePhi k n (numbers number u) (numbers number v)
@@ -117,7 +107,3 @@ module _ {A : Type 0} {o : Ops A} {k : ℕ} {number : A → ℤ} (S : Stands o k
     inverse_numbers a u d =
         let P = reduced_laws (mod_laws k) n in
         phi_numbers (P.tr (mod_phi k n (numbers_times a u)) (P.tr d (P.sy (mod_phi k n numbers_power))))
-
-    -- the values of an integer polynomial
-    pub numbers_of : (u : Poly) → SameMod k n (numbers number (λ i. S.of (u i))) u
-    numbers_of u = record { at = λ i l. S.of_is (u i) }

@@ -50,9 +50,6 @@ module _ {A : Type 0} {o : Ops A} (L : Laws o) where
   pub minus_times : (x y : A) → o.times (o.minus x) y ≡ o.minus (o.times x y)
   minus_times x y = L.times_comm (o.minus x) y ∙ times_minus y x ∙ ap o.minus (L.times_comm y x)
 
-  pub minus_minus : (x : A) → o.minus (o.minus x) ≡ x
-  minus_minus x = sym (minus_only (o.minus x) x (minus_plus x))
-
   pub minus_sum : (x y : A) → o.minus (o.plus x y) ≡ o.plus (o.minus x) (o.minus y)
   minus_sum x y =
       sym (minus_only (o.plus x y) (o.plus (o.minus x) (o.minus y)) (plus_swap x y (o.minus x) (o.minus y) ∙ ap (λ w. o.plus w (o.plus y (o.minus y))) (L.plus_minus x) ∙ nought_plus (o.plus y (o.minus y)) ∙ L.plus_minus y))

@@ -32,9 +32,6 @@ module _ {X A : Type 0} {o : Ops A} (L : Laws o) (value : X → A) where
   pub poly_set : (xs : List X) (j : ℕ) (y : X) (e : A) → j < length xs → value y ≡ o.plus (poly o value xs j) e → poly o value (set xs j y) ≡ (polynomials o).plus (poly o value xs) (monomial o e j)
   poly_set xs j y e h q = fun_ext (λ k. poly_set_at xs j y e k h q)
 
-  pub poly_take_none : (xs : List X) → poly o value (take 0 xs) ≡ (polynomials o).nought
-  poly_take_none xs = fun_ext (λ k. refl)
-
   poly_take_suc : (xs : List X) (i k : ℕ) → poly o value (take (suc i) xs) k ≡ o.plus (poly o value (take i xs) k) (monomial o (poly o value xs i) i k)
   poly_take_suc [] zero zero = sym (L.plus_nought _)
   poly_take_suc [] zero (suc k) = sym (L.plus_nought _)

@@ -30,9 +30,8 @@ impl From<Digit> for i8 {
 
     fn from(digit: Digit) -> Self {
         match digit.code {
-            0 => 0,
-            1 => 1,
-            _ => -1,
+            2 => -1,
+            code => code as i8,
         }
     }
 }

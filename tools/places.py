@@ -30,7 +30,13 @@ class Function:
         return f'{self.path}:{self.line} {self.name}'
 
     def parameters(self):
-        inner = self.signature[self.signature.find('('):] if '(' in self.signature else ''
+        rest = self.signature.split(f'fn {self.name}', 1)[-1]
+        depth, start = 0, 0
+        for start, c in enumerate(rest):
+            if c == '(' and depth == 0:
+                break
+            depth += (c == '<') - (c == '>' and rest[start - 1] != '-')
+        inner = rest[start:]
         return re.findall(r'(\w+): ([^,()]+(?:\([^)]*\))?)', inner.split('->')[0])
 
     def answer(self):

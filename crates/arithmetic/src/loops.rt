@@ -29,6 +29,7 @@ fn fill<R: Ring>(p: &mut [R], value: R)
     }
 }
 
+// By a name of its own, as `fill_ones`: its clause says which polynomial that is.
 pub(crate) fn clear<R: Ring>(p: &mut [R])
     ensures all_zeros { poly R.ring R.value p.new ≡ (polynomials R.ring).nought }
 {

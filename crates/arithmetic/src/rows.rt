@@ -6,7 +6,7 @@ ghost use Rattle.arithmetic.specs.declared.rows.RowRefusal.TheVariants.{Length};
 pub(crate) mod halving;
 pub(crate) mod word_by_word;
 
-// The most words that a row may have.
+// The most words that a row may have, and so the length of the arrays whose fronts a call takes as its lists, since nothing allocates.
 pub(crate) const MOST_WORDS: usize = 1408;
 
 // Why a row was not served.

@@ -14,7 +14,7 @@ use crate::newton::lift_inverse;
 use crate::product::Room;
 use crate::rows::{MOST_WORDS, RowUnit};
 
-// Each word modulo 2^width.
+// Each word modulo 2^width. One slice is as long as the other by a clause, which is plainer than a type round both.
 fn mask_into(width: u32, words: &[u16], out: &mut [u16])
     requires narrow { width ≤ 16 }
     requires room { length out.old ≡ length words.now }

@@ -1,4 +1,5 @@
-// The calls at set 3, each once or the best of some turns in nanoseconds.
+// The calls at set 3, each once or the best of some turns in nanoseconds. What three of them take stands in their lists of parameters: a struct
+// for it would be opened again in each.
 use crate::fault::Fault;
 use arithmetic::WordByWord;
 use scheme::{Job, open_record, test_key};
@@ -7,7 +8,7 @@ use trials::{Random, best_of, fill, generator};
 
 const SET: u8 = 3;
 
-// How often a call is tried, and what is said of it.
+// How often a call is tried, and what is said of it: a number and a sentence, for which closures would be no plainer.
 #[derive(Clone, Copy)]
 pub(crate) enum Trial {
     // Once: that it was served.

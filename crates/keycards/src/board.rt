@@ -5,7 +5,8 @@ use crate::trouble::Trouble;
 use arithmetic::WordByWord;
 use scheme::{ParameterSet, Refusal, open_record, test_key};
 
-// A card that was read from a file, under the number of its set. The runtime is handed to each method: as a field, the borrow checker does not cover them.
+// A card that was read from a file, under the number of its set. The runtime is handed to each method: with it as a field, the borrow checker does
+// not cover the function that calls them.
 #[derive(Drop)]
 pub(crate) struct Card<'a> {
     number: u8,

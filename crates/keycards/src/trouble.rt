@@ -42,6 +42,7 @@ impl Trouble {
         String::from_str(heap, sentence).map_or_else(Trouble::NoMemory, Trouble::Said)
     }
 
+    // Two sentences, here and below, of a line each: `format!` takes its text as it stands.
     pub(crate) fn unknown(heap: Global, word: &str) -> Trouble {
         format!(in heap;
             "there is no command '{word}'; 'keycards help' lists the commands"

@@ -1,4 +1,4 @@
-// The operations of the library, with lists on the heap.
+// The operations of the library, with lists on the heap. What is timed gets lists that were made before (`time`).
 use crate::fault::Fault;
 use arithmetic::{
     Digit, Field, Ring, RowUnit, inverse_mod_phi, inverse_of_words, multiply, subtract_last,

@@ -1,4 +1,5 @@
-// Coefficients as digits and as words: digits go into products as words, and come back from them.
+// Coefficients as digits and as words: digits go into products as words, and come back from them. One slice is as long as the other by a clause,
+// which is plainer than a type round both that each line would open.
 ghost use Rattle.std.specs.Prelude.{◌≡◌, ℕ, ◌^◌, ◌<◌, ◌≤◌, length, pos, get_or, slice_index, slice_index_or, unsigned_abs, MatchOption};
 ghost use Rattle.algebra.specs.Decided.{Tells};
 ghost use Rattle.algebra.specs.Polynomials.{SameMod, centre};

@@ -35,7 +35,7 @@ impl<'a> Coins<'a> {
     }
 }
 
-// Draws r from the first half of the coins and m from the second.
+// Draws r from the first half of the coins and m from the second. This and `draw_key` differ in one line, and a closure for it would be longer.
 pub fn draw_pair(
     set: ParameterSet,
     coins: &[u8],

@@ -1,4 +1,4 @@
-// The test whether a card is a key.
+// The test whether a card is a key. Each test takes the polynomials that its definition names, and the set with the row unit.
 ghost use Rattle.std.specs.Prelude.{◌≡◌, ◌^◌, true, length};
 ghost use Rattle.algebra.specs.Decided.{Tells};
 ghost use Rattle.algebra.specs.Polynomials.{Balanced, InverseMod, times};

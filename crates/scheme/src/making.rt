@@ -1,4 +1,4 @@
-// Make: a card from coins.
+// Make: a card from coins. f, g, fp, h and hq stand singly, as the definitions name them, and go together to no more than one place.
 ghost use Rattle.std.specs.Prelude.{◌≡◌, ◌*◌, ◌^◌, ◌≤◌, ◌++◌, length, pos, MatchResult};
 ghost use Rattle.algebra.specs.Polynomials.{InverseMod, NoInverseMod, SameMod, scale};
 ghost use Rattle.algebra.specs.Radix.{Under};
@@ -144,6 +144,7 @@ fn make_card<U: RowUnit>(unit: &mut U, coins: Coins<'_>, out: &mut [u8]) -> Resu
     draw_settled(coins, f, g);
     invert_modulo_3(f, fp)?;
     make_public(unit, set, f, g, h)?;
+    // One line, as for f in `invert_modulo_q`: a function for it would be no shorter.
     inverse_of_words(unit, set.width, h, hq).ok_or(Refusal::NotInvertible)?;
     write_card(set, f, fp, h, hq, out);
     Ok(())

@@ -1,4 +1,4 @@
-// Open: the pair of a sealed record.
+// Open: the pair of a sealed record. Each step takes the polynomials that its definition names, and the set with the row unit.
 ghost use Rattle.std.specs.Prelude.{◌≡◌, ◌*◌, ◌^◌, true, length, MatchResult};
 ghost use Rattle.algebra.specs.Ring.{Agree, integers};
 ghost use Rattle.algebra.specs.Scheme.{lifting, opened_a, opened_m, opened_r};

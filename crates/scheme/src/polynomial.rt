@@ -1,4 +1,4 @@
-// Polynomials in word parts: a part holds all coefficients but the last.
+// Polynomials in word parts: a part holds all coefficients but the last, so there is one. A slice has no type that says so, and a clause does.
 ghost use Rattle.std.specs.Prelude.{◌≡◌, ℕ, ◌-◌, ◌*◌, ◌%◌, ◌^◌, ◌≤◌, length, take, pos, sum};
 ghost use Rattle.algebra.specs.Polynomials.{Balanced};
 ghost use Rattle.algebra.specs.Radix.{Under};
@@ -9,8 +9,8 @@ ghost use Rattle.scheme.specs.WordPolynomials.{ReadsBack, balanced, padded};
 use crate::width::Width;
 use crate::words::{pack_words, unpack_words};
 
-// The greatest number of coefficients of a polynomial. Nothing allocates, so a call has arrays of that many places, and takes their fronts as its
-// lists; a list that a product is written to lies in a `Room`.
+// The greatest number of coefficients of a polynomial, which a set says by its own facts and not by arithmetic's limit of words. Nothing
+// allocates, so a call has arrays of that many places, and takes their fronts as its lists; a list that a product is written to lies in a `Room`.
 pub(crate) const LONGEST: usize = 1408;
 
 // The sum modulo 65536.

@@ -1,5 +1,5 @@
 // Products of polynomials where x^n counts as 1. The coefficients of the first factor are the factors of the rows, so that each order of words
-// and digits has a function of its own.
+// and digits has a function of its own. A polynomial of a set is a slice and a clause with its length: as a type it would be opened in each line.
 ghost use Rattle.std.specs.Prelude.{◌≡◌, length};
 ghost use Rattle.algebra.specs.Polynomials.{SameMod, centre, times, Φ1};
 ghost use Rattle.algebra.specs.Ring.{Agree, integers, reduce};

@@ -1,4 +1,4 @@
-// Sums and differences of polynomials of words, modulo 65536.
+// Sums and differences of polynomials of words, modulo 65536. That both are of one length is a clause, as in coefficients.
 ghost use Rattle.std.specs.Prelude.{◌≡◌, ℕ, ◌<◌, length, slice_index};
 ghost use Rattle.algebra.specs.Polynomials.{SameMod, less, plus};
 ghost use Rattle.arithmetic.specs.Products.{integers_of};
@@ -14,7 +14,7 @@ fn combine<F: Fn(u16, u16) -> u16>(u: &mut [u16], v: &[u16], f: F)
     }
 }
 
-// Adds v to u.
+// Adds v to u. This and the difference are named for their clauses, which say what the polynomial is then.
 pub(crate) fn add_words(u: &mut [u16], v: &[u16])
     requires { length v.now ≡ length u.old }
     ensures { SameMod 65536 (length u.old) (integers_of u.new) (plus (integers_of u.old) (integers_of v.now)) }

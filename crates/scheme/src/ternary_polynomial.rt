@@ -1,4 +1,4 @@
-// Polynomials in ternary parts: a part holds all coefficients but the last, which is 0.
+// Polynomials in ternary parts: a part holds all coefficients but the last, which is 0. That there is one is a clause, as in word parts.
 ghost use Rattle.std.specs.Prelude.{◌≡◌, ℕ, ◌+◌, ◌-◌, ◌*◌, ◌/◌, ◌≤◌, true, length};
 ghost use Rattle.algebra.specs.Polynomials.{Poly};
 ghost use Rattle.algebra.specs.Ring.{Agree, integers};

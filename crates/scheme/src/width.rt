@@ -11,7 +11,7 @@ pub(crate) struct Width {
 }
 
 impl Width {
-    // The width of so many bits; none where no coefficient has so many.
+    // The width of so many bits; none where no coefficient has so many. Which refusal that is, is the caller's to say.
     pub(crate) fn new(bits: u32) -> Option<Width>
         ensures { MatchOption result (width_fits bits ≡ false) (λ w. (width_fits bits ≡ true) × (w.bits ≡ bits)) }
     {

@@ -7,7 +7,7 @@ use std::io;
 use std::time::{Clock, Duration, Instant};
 
 // The least time that `step` takes in so many turns, each on what `draw` makes for it, which is not timed. The least of no times is the
-// longest duration. The first error ends it.
+// longest duration. The first error ends it. Turns are counted, and no list is gone through.
 pub fn best_of<I, E, D, S>(
     clock: &impl Clock,
     turns: u32,

@@ -25,7 +25,7 @@ pub(crate) struct Case {
 }
 
 impl Call {
-    // The length of the output that the set asks for. Where there is no such set it is 0, which no call looks at.
+    // The length of the output that the set asks for, a size of its own for each call. Where there is no such set it is 0, which no call looks at.
     fn length(&self, set: u8) -> usize {
         ParameterSet::try_from(set).map_or(0, |set| match self {
             Call::Make { .. } => set.card,

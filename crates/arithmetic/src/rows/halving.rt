@@ -1,4 +1,4 @@
-// A row unit over another, which has it do each row in two halves.
+// A row unit over another, which has it do each row in two halves. It counts its own rows: a field and a line, which its clauses name.
 ghost use Rattle.std.specs.Prelude.{◌≡◌, ◌+◌, ◌/◌, ◌^◌, ◌<◌, ◌≤◌, length, Ok};
 ghost use Rattle.arithmetic.specs.Rows.{Handed, RowCall, raised, row_sum};
 

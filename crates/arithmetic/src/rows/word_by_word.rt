@@ -1,4 +1,5 @@
-// A row unit that goes through a row word by word.
+// A row unit that goes through a row word by word. That the output is as long as the list stands as a clause where a row is handed down: the two
+// slices are what the row call takes, and a type round them would be opened in each line. The unit counts what it has served, as each unit does.
 ghost use Rattle.std.specs.Prelude.{◌≡◌, ℕ, ◌^◌, ◌<◌, ◌≤◌, List, length, take};
 ghost use Rattle.arithmetic.specs.Rows.{row_sum};
 

@@ -5,12 +5,6 @@ use Rattle.algebra.proofs.Radix.{Regroups, regroups_all}
 use Rattle.algebra.proofs.WordBits.{low_of_word, bits_read, bits_write, times_more, times_below}
 use Rattle.scheme.proofs.words.unpack_words.Goals as goal
 
-pub loop-held-init : goal.loop-held-init
-loop-held-init c = let s = c.loop-i in (s.invariant.0, omega arith, omega arith, s.invariant.3)
-
-pub bounds-bytes-at : goal.bounds-bytes-at
-bounds-bytes-at c = omega (arith, times_below c.args.width.bits c.loop-i.i _ c.loop-i-test.true)
-
 within : (c : goal.After-from) → c.loop-held.at < length c.args.bytes.now
 within c = omega (arith, times_below c.args.width.bits c.loop-i.i _ c.loop-i-test.true)
 
@@ -28,9 +22,6 @@ read :
 read c =
     let s = c.loop-held in
     bits_read (2 ^ c.args.width.bits) 8 s.bits s.held s.at c.loop-i.i _ c.args.bytes.now c.loop-i.out (byte c) s.invariant.0 (within c) s.invariant.3
-
-pub overflow_add-at : goal.overflow_add-at
-overflow_add-at c = let h = within c in search rules
 
 pub loop-held-preserved : goal.loop-held-preserved
 loop-held-preserved c = let r = read c in (r.0, omega arith, omega arith, r.1)

@@ -1,5 +1,5 @@
 // The test whether a card is a key. Each test takes the polynomials that its definition names, and the set with the row unit.
-ghost use Rattle.std.specs.Prelude.{◌≡◌, ◌^◌, true, length};
+ghost use Rattle.std.specs.Prelude.{◌≡◌, ◌^◌, ◌≤◌, true, length};
 ghost use Rattle.algebra.specs.Decided.{Tells};
 ghost use Rattle.algebra.specs.Polynomials.{Balanced, InverseMod, times};
 ghost use Rattle.algebra.specs.Scheme.{candidate};
@@ -18,13 +18,13 @@ use crate::card::{Parts, split_card};
 use crate::coefficients::{is_one, read_reduced, read_signs};
 use crate::equation::divide_by_3_phi1;
 use crate::polynomial::{LONGEST, read_balanced, read_padded};
-use crate::product::{product, product_modulo_3, times_digits};
+use crate::product::{Work, product, product_modulo_3, times_digits};
 use crate::refusal::Refusal;
 use crate::set::ParameterSet;
 use crate::signs::correlates;
 use crate::ternary::all_hold_digits;
 use crate::ternary_polynomial::read_ternary;
-use arithmetic::{Digit, Room, RowUnit};
+use arithmetic::{Digit, RowUnit};
 
 // Whether f fp is 1 modulo 3 and 1 + x + .. + x^(n - 1).
 fn is_inverse_modulo_3<U: RowUnit>(
@@ -32,47 +32,61 @@ fn is_inverse_modulo_3<U: RowUnit>(
     set: ParameterSet,
     f: &[Digit],
     fp: &[Digit],
+    work: &mut [u16],
 ) -> bool
     requires digits { (length f.now ≡ set.n) × (length fp.now ≡ set.n) }
     requires last { Ternary set.n (coefficients fp.now) }
+    requires room { 7040 ≤ length work.old }
     ensures answer { Tells result (InverseMod 3 set.n (coefficients f.now) (coefficients fp.now)) }
     ensures count { U.rows unit.new ≡ raised set.n (U.rows unit.old) }
 {
     let mut room = [Digit::ZERO; LONGEST];
     let f_fp = &mut room[..set.n];
-    product_modulo_3(unit, set, f, fp, f_fp);
+    product_modulo_3(unit, set, f, fp, work, f_fp);
     is_one(f_fp)
 }
 
 // Whether some g in T+ has h f = 3 (x - 1) g modulo 2^width: the only candidate is in T+.
-fn has_key_equation<U: RowUnit>(unit: &mut U, set: ParameterSet, h: &[u16], f: &[Digit]) -> bool
+fn has_key_equation<U: RowUnit>(
+    unit: &mut U,
+    set: ParameterSet,
+    h: &[u16],
+    f: &[Digit],
+    work: &mut [u16],
+) -> bool
     requires polynomials { (length h.now ≡ set.n) × (length f.now ≡ set.n) }
     requires balanced { Balanced (2 ^ set.width) set.n (integers_of h.now) }
+    requires room { 7040 ≤ length work.old }
     ensures answer { Tells result (Ternary+ set.n (candidate (2 ^ set.width) 43691 (times set.n (integers_of h.now) (coefficients f.now)))) }
     ensures count { U.rows unit.new ≡ raised set.n (U.rows unit.old) }
 {
-    let n = set.n;
-    let mut product_room = Room::new();
     let mut g_room = [Digit::ZERO; LONGEST];
-    let hf = &mut product_room.words[..n];
-    let g = &mut g_room[..n];
-    times_digits(unit, set, h, f, hf);
+    let g = &mut g_room[..set.n];
+    let (hf_room, rest) = work.split_at_mut(LONGEST);
+    let hf = &mut hf_room[..set.n];
+    times_digits(unit, set, h, f, rest, hf);
     divide_by_3_phi1(hf);
     read_signs(set, hf, g).is_some() && correlates(g)
 }
 
 // Whether h hq is 1 modulo 2^width and 1 + x + .. + x^(n - 1).
-fn is_inverse_modulo_q<U: RowUnit>(unit: &mut U, set: ParameterSet, h: &[u16], hq: &[u16]) -> bool
+fn is_inverse_modulo_q<U: RowUnit>(
+    unit: &mut U,
+    set: ParameterSet,
+    h: &[u16],
+    hq: &[u16],
+    work: &mut [u16],
+) -> bool
     requires words { (length h.now ≡ set.n) × (length hq.now ≡ set.n) }
+    requires room { 7040 ≤ length work.old }
     ensures answer { Tells result (InverseMod (2 ^ set.width) set.n (integers_of h.now) (integers_of hq.now)) }
     ensures count { U.rows unit.new ≡ raised set.n (U.rows unit.old) }
 {
-    let n = set.n;
-    let mut product_room = Room::new();
     let mut digits_room = [Digit::ZERO; LONGEST];
-    let h_hq = &mut product_room.words[..n];
-    let digits = &mut digits_room[..n];
-    product(unit, set, h, hq, h_hq);
+    let digits = &mut digits_room[..set.n];
+    let (product_room, rest) = work.split_at_mut(2 * LONGEST);
+    let h_hq = &mut product_room[..set.n];
+    product(unit, set, h, hq, rest, h_hq);
     read_reduced(set, h_hq, digits).is_some() && is_one(digits)
 }
 
@@ -89,25 +103,27 @@ fn test_parts<U: RowUnit>(unit: &mut U, set: ParameterSet, parts: Parts<'_>) -> 
     let mut fp_room = [Digit::ZERO; LONGEST];
     let mut h_room = [0u16; LONGEST];
     let mut hq_room = [0u16; LONGEST];
+    let mut work = Work::new();
     let f = &mut f_room[..n];
     let fp = &mut fp_room[..n];
     let h = &mut h_room[..n];
     let hq = &mut hq_room[..n];
     let width = set.bits();
+    // Each part is read where it is first needed, so that a card that is refused early costs little.
     read_ternary(parts.f.bytes, f);
-    read_ternary(parts.fp.bytes, fp);
-    read_balanced(width, parts.h.bytes, h);
-    read_padded(width, parts.hq.bytes, hq);
     if !correlates(f) {
         return Err(Refusal::NegativeCorrelation);
     }
-    if !is_inverse_modulo_3(unit, set, f, fp) {
+    read_ternary(parts.fp.bytes, fp);
+    if !is_inverse_modulo_3(unit, set, f, fp, &mut work.words) {
         return Err(Refusal::FpNotInverse);
     }
-    if !has_key_equation(unit, set, h, f) {
+    read_balanced(width, parts.h.bytes, h);
+    if !has_key_equation(unit, set, h, f, &mut work.words) {
         return Err(Refusal::NoKeyEquation);
     }
-    if !is_inverse_modulo_q(unit, set, h, hq) {
+    read_padded(width, parts.hq.bytes, hq);
+    if !is_inverse_modulo_q(unit, set, h, hq, &mut work.words) {
         return Err(Refusal::HqNotInverse);
     }
     Ok(())

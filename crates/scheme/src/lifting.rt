@@ -1,5 +1,5 @@
 // Lift: of a polynomial m it is (x - 1) s, where s has digits -1, 0 and 1, and (x - 1) s is m modulo 3 and 1 + x + .. + x^(n - 1).
-ghost use Rattle.std.specs.Prelude.{◌≡◌, length, pos};
+ghost use Rattle.std.specs.Prelude.{◌≡◌, ◌≤◌, length, pos};
 ghost use Rattle.algebra.specs.Polynomials.{SameMod};
 ghost use Rattle.algebra.specs.Ring.{Agree, Differ, integers, sum};
 ghost use Rattle.algebra.specs.Scheme.{lifting, shift};
@@ -51,15 +51,14 @@ fn lifting_digits(set: ParameterSet, m: &[Digit], s: &mut [Digit])
 }
 
 // Writes Lift(m), modulo 65536.
-pub(crate) fn lift(set: ParameterSet, m: &[Digit], out: &mut [u16])
-    requires { (length m.now ≡ set.n) × (length out.old ≡ set.n) }
+pub(crate) fn lift(set: ParameterSet, m: &[Digit], work: &mut [u16], out: &mut [u16])
+    requires polynomials { (length m.now ≡ set.n) × (length out.old ≡ set.n) }
+    requires room { 1408 ≤ length work.old }
     ensures { SameMod 65536 set.n (integers_of out.new) (lift_of set.n (coefficients m.now)) }
 {
-    let n = set.n;
     let mut s_room = [Digit::ZERO; LONGEST];
-    let mut words_room = [0u16; LONGEST];
-    let s = &mut s_room[..n];
-    let words = &mut words_room[..n];
+    let s = &mut s_room[..set.n];
+    let words = &mut work[..set.n];
     lifting_digits(set, m, s);
     signed_words(s, words);
     phi1_times(set, words, out);

@@ -1,5 +1,5 @@
 // Open: the pair of a sealed record. Each step takes the polynomials that its definition names, and the set with the row unit.
-ghost use Rattle.std.specs.Prelude.{◌≡◌, ◌*◌, ◌^◌, true, length, MatchResult};
+ghost use Rattle.std.specs.Prelude.{◌≡◌, ◌*◌, ◌^◌, ◌≤◌, true, length, MatchResult};
 ghost use Rattle.algebra.specs.Ring.{Agree, integers};
 ghost use Rattle.algebra.specs.Scheme.{lifting, opened_a, opened_m, opened_r};
 ghost use Rattle.algebra.specs.Ternary.{Ternary};
@@ -20,13 +20,13 @@ use crate::card::{Parts, split_card};
 use crate::coefficients::{centre_digits, read_reduced};
 use crate::lifting::lift;
 use crate::polynomial::{LONGEST, read_balanced, read_padded};
-use crate::product::{product, product_modulo_3, times_digits};
+use crate::product::{Work, product, product_modulo_3, times_digits};
 use crate::refusal::Refusal;
 use crate::set::ParameterSet;
 use crate::sums::subtract_words;
 use crate::ternary::all_hold_digits;
 use crate::ternary_polynomial::{read_ternary, write_pair};
-use arithmetic::{Digit, Room, RowUnit};
+use arithmetic::{Digit, RowUnit};
 
 // m' of a sealed polynomial c: a is c f, centred modulo 2^width, and m' is a fp, reduced modulo 3 and 1 + x + .. + x^(n - 1).
 fn find_m<U: RowUnit>(
@@ -35,21 +35,22 @@ fn find_m<U: RowUnit>(
     c: &[u16],
     f: &[Digit],
     fp: &[Digit],
+    work: &mut [u16],
     m: &mut [Digit],
 )
     requires polynomials { (length c.now ≡ set.n) × ((length f.now ≡ set.n) × ((length fp.now ≡ set.n) × (length m.old ≡ set.n))) }
     requires last { Ternary set.n (coefficients fp.now) }
+    requires room { 7040 ≤ length work.old }
     ensures message { Agree integers set.n (coefficients m.new) (opened_m set.n (coefficients fp.now) (opened_a set.n (2 ^ set.width) (coefficients f.now) (integers_of c.now))) }
     ensures count { U.rows unit.new ≡ raised (2 * set.n) (U.rows unit.old) }
 {
-    let n = set.n;
-    let mut cf_room = Room::new();
     let mut a_room = [Digit::ZERO; LONGEST];
-    let cf = &mut cf_room.words[..n];
-    let a = &mut a_room[..n];
-    times_digits(unit, set, c, f, cf);
+    let a = &mut a_room[..set.n];
+    let (cf_room, rest) = work.split_at_mut(LONGEST);
+    let cf = &mut cf_room[..set.n];
+    times_digits(unit, set, c, f, rest, cf);
     centre_digits(set, cf, a);
-    product_modulo_3(unit, set, a, fp, m);
+    product_modulo_3(unit, set, a, fp, work, m);
 }
 
 // r' of a sealed polynomial c and its m': b is c - Lift(m'), and r' is b hq, reduced modulo 2^width and 1 + x + .. + x^(n - 1) and
@@ -60,24 +61,25 @@ fn find_r<U: RowUnit>(
     c: &mut [u16],
     m: &[Digit],
     hq: &[u16],
+    work: &mut [u16],
     r: &mut [Digit],
 ) -> Result<(), Refusal>
     requires words { (length c.old ≡ set.n) × (length hq.now ≡ set.n) }
     requires digits { (length m.now ≡ set.n) × (length r.old ≡ set.n) }
+    requires room { 7040 ≤ length work.old }
     ensures factor { let u = opened_r set.n (2 ^ set.width) (integers_of hq.now) (integers_of c.old) (lifting set.n (coefficients m.now)) in MatchResult result
         (λ _. Ternary set.n u × Agree integers set.n (coefficients r.new) u)
         (λ e. (Ternary set.n u → ⊥) × (e ≡ NoPair)) }
     ensures count { U.rows unit.new ≡ raised set.n (U.rows unit.old) }
 {
-    let n = set.n;
-    let mut lifted_room = [0u16; LONGEST];
-    let mut product_room = Room::new();
-    let lifted = &mut lifted_room[..n];
-    let b_hq = &mut product_room.words[..n];
-    lift(set, m, lifted);
-    subtract_words(c, lifted);
-    product(unit, set, c, hq, b_hq);
-    read_reduced(set, b_hq, r).ok_or(Refusal::NoPair)
+    let (room, rest) = work.split_at_mut(LONGEST);
+    let (lift_room, rest) = rest.split_at_mut(LONGEST);
+    // Lift(m') first, and then the product in its place.
+    let found = &mut room[..set.n];
+    lift(set, m, lift_room, found);
+    subtract_words(c, found);
+    product(unit, set, c, hq, rest, found);
+    read_reduced(set, found, r).ok_or(Refusal::NoPair)
 }
 
 // Opens a sealed record under the parts of a card. Where there is no pair, `pair` stays as it was.
@@ -102,6 +104,7 @@ fn open_parts<U: RowUnit>(
     let mut r_room = [Digit::ZERO; LONGEST];
     let mut c_room = [0u16; LONGEST];
     let mut hq_room = [0u16; LONGEST];
+    let mut work = Work::new();
     let f = &mut f_room[..n];
     let fp = &mut fp_room[..n];
     let m = &mut m_room[..n];
@@ -113,8 +116,8 @@ fn open_parts<U: RowUnit>(
     read_ternary(parts.fp.bytes, fp);
     read_balanced(width, sealed, c);
     read_padded(width, parts.hq.bytes, hq);
-    find_m(unit, set, c, f, fp, m);
-    find_r(unit, set, c, m, hq, r)?;
+    find_m(unit, set, c, f, fp, &mut work.words, m);
+    find_r(unit, set, c, m, hq, &mut work.words, r)?;
     write_pair(set, r, m, pair);
     Ok(())
 }

@@ -1,10 +1,13 @@
-use Rattle.std.proofs.Common.{ℕ, ◌^◌, refl, ap, ◌∙◌, subst}
+use Rattle.std.proofs.Common.{ℕ, ◌-◌, ◌^◌, refl, ap, ◌∙◌, subst}
 use Rattle.algebra.specs.Polynomials.{Balanced}
 use Rattle.algebra.specs.Ternary.{Ternary}
 use Rattle.arithmetic.specs.Digits.{coefficients}
 use Rattle.arithmetic.specs.Products.{integers_of}
 use Rattle.arithmetic.specs.Rows.{raised}
 use Rattle.arithmetic.proofs.Rooms.{in_room}
+use Rattle.scheme.specs.TernaryPolynomials.{ended_digits}
+use Rattle.scheme.specs.WordParts.{part_words}
+use Rattle.scheme.specs.WordPolynomials.{balanced, padded}
 use Rattle.scheme.proofs.RowCounts.{no_rows, some_rows, two_rows, three_rows}
 use Rattle.scheme.proofs.SetFacts.{wide}
 use Rattle.scheme.proofs.Testing.{f_fails, fp_fails, g_fails, hq_fails, passes}
@@ -16,8 +19,8 @@ returns-then-not-correlates g c =
     let p = c.args.parts in
     let few = set.length.1 in
     let rows = g.U.RowUnit.rows c.args.unit.now in
-    let table = f_fails set.n set.width set.length.0 (wide set) p.f.bytes.now p.fp.bytes.now p.h.bytes.now p.hq.bytes.now c.read_ternary.new.out c.read_ternary-2.new.out c.read_balanced.new.out c.read_padded.new.out
-    (in_room _ few) (in_room _ few) (in_room _ few) (in_room _ few) c.read_ternary.ensures.digits c.read_ternary-2.ensures.digits (rw c.bits-width.ensures at c.read_balanced.ensures.words) (rw c.bits-width.ensures at c.read_padded.ensures.words)
+    let table = f_fails set.n set.width set.length.0 (wide set) p.f.bytes.now p.fp.bytes.now p.h.bytes.now p.hq.bytes.now c.read_ternary.new.out (ended_digits set.n p.fp.bytes.now) (balanced set.width (part_words set.width (set.n - 1) p.h.bytes.now)) (padded (part_words set.width (set.n - 1) p.hq.bytes.now))
+    (in_room _ few) refl refl refl c.read_ternary.ensures.digits refl refl refl
     (c.read_ternary.auto.out ∙ in_room _ few) c.correlates.ensures c.if-not-correlates.true in
     record { answer = table.answer_is; count = no_rows rows (g.met.U.RowUnit.top c.args.unit.now) ∙ ap (λ r. raised r rows) table.rows_are }
 
@@ -32,8 +35,8 @@ returns-then-not-is_inverse_modulo_3 g c =
     let set = c.args.set in
     let p = c.args.parts in
     let few = set.length.1 in
-    let table = fp_fails set.n set.width set.length.0 (wide set) p.f.bytes.now p.fp.bytes.now p.h.bytes.now p.hq.bytes.now c.read_ternary.new.out c.read_ternary-2.new.out c.read_balanced.new.out c.read_padded.new.out
-    (in_room _ few) (in_room _ few) (in_room _ few) (in_room _ few) c.read_ternary.ensures.digits c.read_ternary-2.ensures.digits (rw c.bits-width.ensures at c.read_balanced.ensures.words) (rw c.bits-width.ensures at c.read_padded.ensures.words)
+    let table = fp_fails set.n set.width set.length.0 (wide set) p.f.bytes.now p.fp.bytes.now p.h.bytes.now p.hq.bytes.now c.read_ternary.new.out c.read_ternary-2.new.out (balanced set.width (part_words set.width (set.n - 1) p.h.bytes.now)) (padded (part_words set.width (set.n - 1) p.hq.bytes.now))
+    (in_room _ few) (in_room _ few) refl refl c.read_ternary.ensures.digits c.read_ternary-2.ensures.digits refl refl
     (c.read_ternary.auto.out ∙ in_room _ few) c.correlates.ensures c.if-not-correlates.false c.is_inverse_modulo_3.ensures.answer c.if-not-is_inverse_modulo_3.true in
     record { answer = table.answer_is; count = some_rows set.n (g.U.RowUnit.rows c.args.unit.now) refl c.is_inverse_modulo_3.ensures.count ∙ ap (λ r. raised r (g.U.RowUnit.rows c.args.unit.now)) table.rows_are }
 
@@ -50,8 +53,8 @@ returns-then-not-has_key_equation g c =
     let set = c.args.set in
     let p = c.args.parts in
     let few = set.length.1 in
-    let table = g_fails set.n set.width set.length.0 (wide set) p.f.bytes.now p.fp.bytes.now p.h.bytes.now p.hq.bytes.now c.read_ternary.new.out c.read_ternary-2.new.out c.read_balanced.new.out c.read_padded.new.out
-    (in_room _ few) (in_room _ few) (in_room _ few) (in_room _ few) c.read_ternary.ensures.digits c.read_ternary-2.ensures.digits (rw c.bits-width.ensures at c.read_balanced.ensures.words) (rw c.bits-width.ensures at c.read_padded.ensures.words)
+    let table = g_fails set.n set.width set.length.0 (wide set) p.f.bytes.now p.fp.bytes.now p.h.bytes.now p.hq.bytes.now c.read_ternary.new.out c.read_ternary-2.new.out c.read_balanced.new.out (padded (part_words set.width (set.n - 1) p.hq.bytes.now))
+    (in_room _ few) (in_room _ few) (in_room _ few) refl c.read_ternary.ensures.digits c.read_ternary-2.ensures.digits (rw c.bits-width.ensures at c.read_balanced.ensures.words) refl
     (c.read_ternary.auto.out ∙ in_room _ few) c.correlates.ensures c.if-not-correlates.false c.is_inverse_modulo_3.ensures.answer c.if-not-is_inverse_modulo_3.false c.has_key_equation.ensures.answer c.if-not-has_key_equation.true in
     record { answer = table.answer_is; count = two_rows set.n (g.U.RowUnit.rows c.args.unit.now) refl refl c.is_inverse_modulo_3.ensures.count c.has_key_equation.ensures.count ∙ ap (λ r. raised r (g.U.RowUnit.rows c.args.unit.now)) table.rows_are }
 

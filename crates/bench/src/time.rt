@@ -11,16 +11,16 @@ const SET: u8 = 3;
 // How often a call is tried, and what is said of it: a number and a sentence, for which closures would be no plainer.
 #[derive(Clone, Copy)]
 pub(crate) enum Trial {
-    // Once: that it was served.
+    // One turn, in which the shorter calls are tried more often: that each was served.
     Once,
-    // So many times, and the shorter calls more often: its best time.
+    // So many such turns: the best time of a call.
     Timed(u32),
 }
 
 impl Trial {
     fn turns(self, times: u32) -> u32 {
         match self {
-            Trial::Once => 1,
+            Trial::Once => times,
             Trial::Timed(turns) => turns.saturating_mul(times),
         }
     }

@@ -42,18 +42,22 @@ impl Case {
         let name = words.next().ok_or(Fault::Line)?;
         let set = words.next().ok_or(Fault::Line)?;
         let set = set.parse::<u8>().map_err(|_| Fault::Line)?;
-        let first = hex::read(heap, words.next().ok_or(Fault::Line)?)?;
+        // Nothing is read for a name that is no call.
         let call = match name {
-            "make" => Call::Make { coins: first },
+            "make" => Call::Make {
+                coins: bytes(heap, words.next())?,
+            },
             "seal" => Call::Seal {
-                card: first,
-                coins: hex::read(heap, words.next().ok_or(Fault::Line)?)?,
+                card: bytes(heap, words.next())?,
+                coins: bytes(heap, words.next())?,
             },
             "open" => Call::Open {
-                card: first,
-                record: hex::read(heap, words.next().ok_or(Fault::Line)?)?,
+                card: bytes(heap, words.next())?,
+                record: bytes(heap, words.next())?,
             },
-            "test" => Call::Test { card: first },
+            "test" => Call::Test {
+                card: bytes(heap, words.next())?,
+            },
             _ => return Err(Fault::Line),
         };
         let length = match words.next() {
@@ -62,4 +66,8 @@ impl Case {
         };
         Ok(Case { call, set, length })
     }
+}
+
+fn bytes(heap: Global, word: Option<&str>) -> Result<Vec<u8>, Fault> {
+    hex::read(heap, word.ok_or(Fault::Line)?)
 }

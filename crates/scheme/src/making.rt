@@ -87,12 +87,11 @@ fn make_public<U: RowUnit>(
     let mut fq_room = [0u16; LONGEST];
     let mut product_room = Room::new();
     let mut turned_room = [0u16; LONGEST];
-    let mut work = [0u16; 3 * LONGEST];
     let fq = &mut fq_room[..n];
     let g_fq = &mut product_room.words[..n];
     let turned = &mut turned_room[..n];
     invert_modulo_q(unit, set, f, fq)?;
-    digits_times(unit, set, g, fq, &mut work, g_fq);
+    digits_times(unit, set, g, fq, g_fq);
     phi1_times(set, g_fq, turned);
     triple(set, turned, h);
     Ok(())

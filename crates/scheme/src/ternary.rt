@@ -75,7 +75,16 @@ pub(crate) fn unpack(bytes: &[u8], out: &mut [Digit])
     requires { length out.old ≤ 5 * length bytes.now }
     ensures { out.new ≡ ternary_digits (length out.old) bytes.now }
 {
+    // What is left of a byte, and of how many digits. It is divided by 3 at each digit, since to divide by a power that varies is slow.
+    let mut rest: u8 = 0;
+    let mut left: u8 = 0;
     for (i, d) in out.iter_mut().enumerate() {
-        *d = Digit::from(u16::from(bytes[i / 5] / POWERS[i % 5]));
+        if left == 0 {
+            rest = bytes[i / 5];
+            left = 5;
+        }
+        *d = Digit::from(u16::from(rest));
+        rest /= 3;
+        left -= 1;
     }
 }

@@ -88,6 +88,14 @@ unfolding digits
 part_done [] out whole i e room inv = rw (append-nil, take_all i out (omega arith)) at inv
 part_done (d ∷ ds) out whole i e room inv = absurd (omega arith)
 
+-- the last byte, where fewer than five digits are left
+pub part_last :
+    (rest : List Digit) (out whole : List ℕ) (i b : ℕ) → length rest < 5 → 0 < length rest → b ≡ numeral 3 (codes rest)
+    → i + part_bytes (length rest) ≡ length out → take i out ++ ternary_part rest ≡ whole → set out i b ≡ whole
+part_last rest out whole i b few h eb room inv =
+    let r = part_more rest rest [] out whole i b (sym (append-nil rest)) (omega arith) h eb room inv in
+    part_done [] (set out i b) whole (i + 1) refl r.0 r.1
+
 -- ---- a byte's digits, which are divided off one by one
 pub first_digit : (bytes : List ℕ) (i : ℕ) → i % 5 ≡ 0 → get_or bytes (i / 5) 0 ≡ get_or bytes (i / 5) 0 / 3 ^ (i % 5)
 first_digit bytes i h = rw (h, pow-zero) (omega arith)

@@ -1,6 +1,6 @@
 -- Steps of the loops that regroup digits five to a byte, and the laws of ternary parts.
 use Rattle.std.proofs.Common.{◌≡◌, ℕ, zero, suc, ◌+◌, ◌*◌, ◌/◌, ◌%◌, ◌^◌, ◌<◌, ◌≤◌, List, [], ◌∷◌, ◌++◌, map, length, get_or, take, set, sym, refl, ap, ◌∙◌, mod-eq_of_lt, subst, append_assoc, arith, length-take, length-append, length-set, min, ap₂}
-use native.Mathlib.Nat.{div-eq_of_lt, add-mul-mod_self_left, add-mul-div_left, zero-add, pow-le-pow_right, pow-zero, mul_comm}
+use native.Mathlib.Nat.{div-eq_of_lt, add-mul-mod_self_left, add-mul-div_left, zero-add, pow-le-pow_right, pow-zero, mul_comm, pow-succ', div-div-eq-div-mul}
 use Rattle.std.proofs.lemmas.List.{get_or-map, length-map, map-append, get_or_past, take_more, take_more_set, take_all, append-nil}
 use Rattle.algebra.specs.Radix.{numeral, digits, digit_at, Under}
 use Rattle.algebra.proofs.Radix.{numeral_lt, length_digits}
@@ -87,6 +87,25 @@ pub part_done : (rest : List Digit) (out whole : List ℕ) (i : ℕ) → length 
 unfolding digits
 part_done [] out whole i e room inv = rw (append-nil, take_all i out (omega arith)) at inv
 part_done (d ∷ ds) out whole i e room inv = absurd (omega arith)
+
+-- the last byte, where fewer than five digits are left
+pub part_last :
+    (rest : List Digit) (out whole : List ℕ) (i b : ℕ) → length rest < 5 → 0 < length rest → b ≡ numeral 3 (codes rest)
+    → i + part_bytes (length rest) ≡ length out → take i out ++ ternary_part rest ≡ whole → set out i b ≡ whole
+part_last rest out whole i b few h eb room inv =
+    let r = part_more rest rest [] out whole i b (sym (append-nil rest)) (omega arith) h eb room inv in
+    part_done [] (set out i b) whole (i + 1) refl r.0 r.1
+
+-- ---- a byte's digits, which are divided off one by one
+pub first_digit : (bytes : List ℕ) (i : ℕ) → i % 5 ≡ 0 → get_or bytes (i / 5) 0 ≡ get_or bytes (i / 5) 0 / 3 ^ (i % 5)
+first_digit bytes i h = rw (h, pow-zero) (omega arith)
+
+pub next_digit : (bytes : List ℕ) (i rest : ℕ) → rest ≡ get_or bytes (i / 5) 0 / 3 ^ (i % 5) → 0 < (i + 1) % 5 → rest / 3 ≡ get_or bytes ((i + 1) / 5) 0 / 3 ^ ((i + 1) % 5)
+next_digit bytes i rest e h =
+    let q : (i + 1) / 5 ≡ i / 5 = omega arith in
+    let r : (i + 1) % 5 ≡ suc (i % 5) = omega arith in
+    let byte = get_or bytes (i / 5) 0 in
+    rw (q, r, e, pow-succ') (div-div-eq-div-mul byte (3 ^ (i % 5)) 3 ∙ ap (λ k. byte / k) (mul_comm (3 ^ (i % 5)) 3))
 
 -- ---- laws
 codes_under : (ds : List Digit) → Under 3 (codes ds)

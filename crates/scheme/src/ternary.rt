@@ -47,8 +47,14 @@ pub(crate) fn pack(digits: &[Digit], out: &mut [u8])
     requires { length out.old ≡ (length digits.now + 4) / 5 }
     ensures { out.new ≡ ternary_part digits.now }
 {
-    for (i, five) in digits.chunks(5).enumerate() {
+    // Whole bytes by themselves: the number of their digits is fixed, and the code then several times as fast.
+    let fives = digits.chunks_exact(5);
+    let last = fives.remainder();
+    for (i, five) in fives.enumerate() {
         out[i] = packed(five);
+    }
+    if !last.is_empty() {
+        out[digits.len() / 5] = packed(last);
     }
 }
 
@@ -75,7 +81,16 @@ pub(crate) fn unpack(bytes: &[u8], out: &mut [Digit])
     requires { length out.old ≤ 5 * length bytes.now }
     ensures { out.new ≡ ternary_digits (length out.old) bytes.now }
 {
+    // What is left of a byte, and of how many digits. It is divided by 3 at each digit, since to divide by a power that varies is slow.
+    let mut rest: u8 = 0;
+    let mut left: u8 = 0;
     for (i, d) in out.iter_mut().enumerate() {
-        *d = Digit::from(u16::from(bytes[i / 5] / POWERS[i % 5]));
+        if left == 0 {
+            rest = bytes[i / 5];
+            left = 5;
+        }
+        *d = Digit::from(u16::from(rest));
+        rest /= 3;
+        left -= 1;
     }
 }

@@ -1,7 +1,17 @@
 -- Bits and digits by their codes.
 use Rattle.std.proofs.Common.{◌≡◌, ℕ, zero, suc, ◌+◌, ◌%◌, ◌<◌, refl, arith, lit<}
+use mathlib.Core.HLevel.{is_prop→PathP}
+use native.Mathlib.Bridge.{le_prop}
 use lib.Bits.{bit_xor}
+use Rattle.arithmetic.specs.declared.bit.Bit.{Bit}
 use Rattle.algebra.specs.Residues.{residue, residues, same_residue}
+use Rattle.algebra.proofs.Residues.{residue_back}
+
+-- bits of one value are one bit
+pub bit_same : (b d : Bit) → residue 2 (lit< tt) b.code ≡ residue 2 (lit< tt) d.code → b ≡ d
+bit_same b d e =
+    let p : b.code ≡ d.code = residue_back 2 (lit< tt) b.code d.code b.small d.small e in
+    λ i. record { code = p i; small = is_prop→PathP (λ k. p k < 2) (λ k. le_prop) b.small d.small i }
 
 pub xor_sum : (a b : ℕ) → a < 2 → b < 2 → bit_xor a b ≡ (a + b) % 2
 xor_sum zero zero h l = refl

@@ -4,7 +4,7 @@ use native.Mathlib.Nat.{mod-add-mod}
 use lib.Bits.{bit_and}
 use Rattle.std.specs.List.{between}
 use Rattle.std.proofs.lemmas.Nat.{and_mask}
-use Rattle.std.proofs.lemmas.List.FromFn.{fill_by_all, get_or-map-range_with_len}
+use Rattle.std.proofs.lemmas.List.FromFn.{fill_by_all, get_or-map-range_with_len, length-map-range_with_len}
 use Rattle.std.proofs.lemmas.List.Edits.{get_or-between, length-between}
 use Rattle.algebra.specs.Ring.{Differ, integers, naturals, sum, sum_by}
 use Rattle.algebra.specs.Polynomials.{SameMod, as_word}
@@ -49,6 +49,10 @@ product_all u d out v size same inv e =
 pub product_at : (u v : List ℕ) (k : ℕ) → k < length u → get_or (cyclic_product u v) k 0 ≡ coefficient u v k % 65536
 unfolding cyclic_product
 product_at u v k l = get_or-map-range_with_len (λ j. coefficient u v j % 65536) 0 (length u) k k 0 l (omega arith)
+
+pub product_length : (u v : List ℕ) → length (cyclic_product u v) ≡ length u
+unfolding cyclic_product
+product_length u v = length-map-range_with_len (λ k. coefficient u v k % 65536) 0 (length u)
 
 -- as integers
 pub product_meaning : (u v out : List ℕ) → out ≡ cyclic_product u v → SameMod 65536 (length u) (integers_of out) (integer_product u v)

@@ -27,10 +27,9 @@ pub fn times_phi1<R: Ring>(v: &[R], out: &mut [R]) -> Result<(), WrongLength>
     let [.., last] = v else {
         return Ok(());
     };
-    let mut before = *last;
-    for (i, c) in v.iter().enumerate() {
-        out[i] = before.sum(c.negation());
-        before = *c;
+    out[0] = last.sum(v[0].negation());
+    for (i, c) in v[1..].iter().enumerate() {
+        out[i + 1] = v[i].sum(c.negation());
     }
     Ok(())
 }

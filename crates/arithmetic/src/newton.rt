@@ -3,7 +3,7 @@ ghost use Rattle.std.specs.Prelude.{◌≡◌, ℕ, ◌*◌, ◌<◌, ◌≤◌,
 ghost use Rattle.algebra.specs.Polynomials.{SameMod, refine as refined};
 ghost use Rattle.algebra.specs.Ring.{Differ, integers, reduce};
 ghost use Rattle.arithmetic.specs.Newton.{Lifted, two_less, words_of};
-ghost use Rattle.arithmetic.specs.Products.{integers_of};
+ghost use Rattle.arithmetic.specs.Products.{Sized, integers_of};
 ghost use Rattle.arithmetic.specs.Rows.{raised};
 
 use crate::cyclic::subtract_last;
@@ -35,19 +35,19 @@ fn reduce_words(u: &mut [u16])
     subtract_last(u);
 }
 
-// Newton's step: u becomes u (2 - f u).
-pub(crate) fn refine<U: RowUnit>(unit: &mut U, f: &[u16], u: &mut [u16])
-    requires sizes { (1 ≤ length f.now) × (length f.now ≤ 1408) }
-    requires room { length u.old ≡ length f.now }
+// Newton's step: u becomes u (2 - f u). The other two lists are room to work in.
+pub(crate) fn refine<U: RowUnit>(
+    unit: &mut U,
+    f: &[u16],
+    u: &mut [u16],
+    doubled: &mut [u16],
+    p: &mut [u16],
+)
+    requires sized { Sized f.now u.old doubled.old p.old }
     ensures step { SameMod 65536 (length f.now) (integers_of u.new) (refined (length f.now) (integers_of f.now) (integers_of u.old)) }
     ensures words { u.new ≡ words_of (length f.now) (refined (length f.now) (integers_of f.now) (integers_of u.old)) }
     ensures count { U.rows unit.new ≡ raised (2 * length f.now) (U.rows unit.old) }
 {
-    let n = f.len();
-    let mut twice = [0u16; 2 * MOST_WORDS];
-    let doubled = &mut twice[..2 * n];
-    let mut room = Room::new();
-    let p = &mut room.words[..n];
     write_twice(u, doubled);
     multiply_doubled(unit, f, doubled, p);
     take_from_two(p);
@@ -62,10 +62,16 @@ pub(crate) fn lift_inverse<U: RowUnit>(unit: &mut U, f: &[u16], u: &mut [u16])
     ensures lifted { Lifted f.now u.old u.new }
     ensures count { U.rows unit.new ≡ raised (8 * length f.now) (U.rows unit.old) }
 {
+    let n = f.len();
+    // Made and cleared once for all four steps, which for a small n is a good part of their time.
+    let mut twice = [0u16; 2 * MOST_WORDS];
+    let doubled = &mut twice[..2 * n];
+    let mut room = Room::new();
+    let p = &mut room.words[..n];
     // Four calls and no loop, whose invariant would be these four steps again.
-    refine(unit, f, u);
-    refine(unit, f, u);
-    refine(unit, f, u);
-    refine(unit, f, u);
+    refine(unit, f, u, doubled, p);
+    refine(unit, f, u, doubled, p);
+    refine(unit, f, u, doubled, p);
+    refine(unit, f, u, doubled, p);
     reduce_words(u);
 }

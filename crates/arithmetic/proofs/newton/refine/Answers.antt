@@ -1,5 +1,4 @@
 use Rattle.std.proofs.Common.{◌≡◌, ℕ, length, subst, arith}
-use Rattle.std.proofs.lemmas.List.{length-take-le}
 use Rattle.algebra.specs.Polynomials.{SameMod, refine, times}
 use Rattle.algebra.proofs.WordInverses.{step_is}
 use Rattle.arithmetic.specs.Newton.{two_less}
@@ -16,7 +15,7 @@ returns g c =
     let p = c.multiply_doubled.new.out in
     let q = c.take_from_two.new.p in
     let v = c.multiply_doubled-2.new.out in
-    let lp : length p ≡ n = omega (arith, length-take-le n c.new-room.result.words (omega arith)) in
+    let lp : length p ≡ n = omega arith in
     let lq : length q ≡ n = omega arith in
     let first = product_meaning f u p (c.multiply_doubled.ensures.words u c.write_twice.ensures.twice) in
     let less : SameMod 65536 n (integers_of q) (two_less n (integers_of p)) =

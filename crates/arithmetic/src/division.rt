@@ -17,11 +17,14 @@ fn reduce<F: Field>(r: &mut [F], d: &[F], q: &mut [F])
 {
     let top = d.len() - 1;
     let lead = d[top].inverse();
-    // From the highest place down; a place is one in q and one in r.
-    for shift in (0..r.len().saturating_sub(top)).rev() {
-        let c = r[shift + top].product(lead);
+    // A `while`, since under a `for` that counts down the loop of `add_shifted` is not vectorised.
+    let mut left = r.len();
+    while left >= d.len() {
+        let c = r[left - 1].product(lead);
+        let shift = left - d.len();
         q[shift] = c;
         add_shifted(r, d, c.negation(), shift);
+        left -= 1;
     }
 }
 

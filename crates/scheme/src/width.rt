@@ -1,5 +1,5 @@
 // How many bits a coefficient has in a word part.
-ghost use Rattle.std.specs.Prelude.{◌≡◌, ℕ, ◌-◌, ◌%◌, ◌^◌, ◌≤◌, true, false, MatchOption};
+ghost use Rattle.std.specs.Prelude.{◌≡◌, ℕ, ◌-◌, ◌%◌, ◌^◌, ◌≤◌};
 ghost use Rattle.scheme.specs.WordParts.{width_fits, word_bytes};
 
 // 1 to 16 bits.
@@ -11,15 +11,11 @@ pub(crate) struct Width {
 }
 
 impl Width {
-    // The width of so many bits; none where no coefficient has so many. Which refusal that is, is the caller's to say.
-    pub(crate) fn new(bits: u32) -> Option<Width>
-        ensures { MatchOption result (width_fits bits ≡ false) (λ w. (width_fits bits ≡ true) × (w.bits ≡ bits)) }
+    // Whether coefficients of so many bits are had.
+    pub(crate) fn fits(bits: u32) -> bool
+        ensures { result ≡ width_fits bits }
     {
-        if (1..=16).contains(&bits) {
-            Some(Width { bits })
-        } else {
-            None
-        }
+        (1..=16).contains(&bits)
     }
 
     // The greatest coefficient: all its bits are set.

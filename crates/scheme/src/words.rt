@@ -1,7 +1,6 @@
 // Word parts: `width` bits a coefficient, lowest bit first.
-ghost use Rattle.std.specs.Prelude.{◌≡◌, ℕ, ◌*◌, ◌^◌, ◌≤◌, true, false, length, Ok, MatchResult};
+ghost use Rattle.std.specs.Prelude.{◌≡◌, ℕ, ◌*◌, ◌^◌, ◌≤◌, length, Ok};
 ghost use Rattle.algebra.specs.Radix.{Under};
-ghost use Rattle.scheme.specs.declared.refusal.Refusal.TheVariants.{InputLength};
 ghost use Rattle.scheme.specs.Refusals.{left, verdict};
 ghost use Rattle.scheme.specs.WordParts.{HoldsBits, TakesBits, shaped, word_bytes, word_part, word_reads, word_writes, part_words};
 
@@ -18,7 +17,10 @@ pub fn write_word_part(width: u32, coefficients: &[u16], out: &mut [u8]) -> Resu
     ensures bit_by_bit { result ≡ Ok tt → HoldsBits width coefficients.now out.new }
     ensures reads_back { result ≡ Ok tt → Under (2 ^ width) coefficients.now → part_words width (length coefficients.now) out.new ≡ coefficients.now }
 {
-    let width = part_width(width, coefficients.len())?;
+    if !has_shape(width, coefficients.len()) {
+        return Err(Refusal::InputLength);
+    }
+    let width = Width { bits: width };
     if out.len() != width.part_bytes(coefficients.len()) {
         return Err(Refusal::OutputLength);
     }
@@ -32,7 +34,10 @@ pub fn read_word_part(width: u32, bytes: &[u8], out: &mut [u16]) -> Result<(), R
     ensures output { out.new ≡ left result (part_words width (length out.old) bytes.now) out.old }
     ensures bit_by_bit { result ≡ Ok tt → TakesBits width bytes.now out.new }
 {
-    let width = part_width(width, out.len())?;
+    if !has_shape(width, out.len()) {
+        return Err(Refusal::InputLength);
+    }
+    let width = Width { bits: width };
     if bytes.len() != width.part_bytes(out.len()) {
         return Err(Refusal::InputLength);
     }
@@ -40,14 +45,12 @@ pub fn read_word_part(width: u32, bytes: &[u8], out: &mut [u16]) -> Result<(), R
     Ok(())
 }
 
-// The width of word parts of so many bits and coefficients, where there are such.
-fn part_width(bits: u32, count: usize) -> Result<Width, Refusal>
-    ensures { MatchResult result (λ w. (shaped bits count ≡ true) × (w.bits ≡ bits)) (λ e. (shaped bits count ≡ false) × (e ≡ InputLength)) }
+// Whether there are word parts of so many bits and coefficients. No `Option` of a width: only of one that was tested in place does a compiler
+// know that it is 16 at most, and the loops are then faster.
+fn has_shape(bits: u32, count: usize) -> bool
+    ensures { result ≡ shaped bits count }
 {
-    if !(1..=MOST).contains(&count) {
-        return Err(Refusal::InputLength);
-    }
-    Width::new(bits).ok_or(Refusal::InputLength)
+    Width::fits(bits) && (1..=MOST).contains(&count)
 }
 
 // Bits come in by coefficients and go out by bytes: `held` bits wait in `bits` for the byte at `at`. A byte takes bits of up to eight

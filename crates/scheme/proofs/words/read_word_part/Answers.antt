@@ -7,5 +7,4 @@ pub returns-clause-bit_by_bit : goal.returns-clause-bit_by_bit
 returns-clause-bit_by_bit c _ =
     let w = c.args.width in
     let bytes = c.args.bytes.now in
-    let same = c.in_ok-width.ensures.1 in
-    subst (TakesBits w bytes) (sym (rw same at c.unpack_words.ensures)) (takes_bits w (length c.args.out.now) bytes (omega arith))
+    subst (TakesBits w bytes) (sym c.unpack_words.ensures) (takes_bits w (length c.args.out.now) bytes (omega arith))

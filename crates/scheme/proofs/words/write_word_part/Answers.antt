@@ -7,12 +7,10 @@ pub returns-clause-bit_by_bit : goal.returns-clause-bit_by_bit
 returns-clause-bit_by_bit c _ =
     let w = c.args.width in
     let cs = c.args.coefficients.now in
-    let same = c.in_ok-width.ensures.1 in
-    subst (HoldsBits w cs) (sym (rw same at c.pack_words.ensures)) (holds_bits w cs (omega arith))
+    subst (HoldsBits w cs) (sym c.pack_words.ensures) (holds_bits w cs (omega arith))
 
 pub returns-clause-reads_back : goal.returns-clause-reads_back
 returns-clause-reads_back c _ u =
     let w = c.args.width in
     let cs = c.args.coefficients.now in
-    let same = c.in_ok-width.ensures.1 in
-    ap (part_words w (length cs)) (rw same at c.pack_words.ensures) ∙ words_back w cs (omega arith) u
+    ap (part_words w (length cs)) c.pack_words.ensures ∙ words_back w cs (omega arith) u

@@ -26,22 +26,21 @@ use crate::ternary::all_hold_digits;
 use crate::ternary_polynomial::read_ternary;
 use arithmetic::{Digit, RowUnit};
 
-// Whether f fp is 1 modulo 3 and 1 + x + .. + x^(n - 1).
+// Whether f fp is 1 modulo 3 and 1 + x + .. + x^(n - 1). The list of f fp is room to work in, as those of g and of h hq in the tests below.
 fn is_inverse_modulo_3<U: RowUnit>(
     unit: &mut U,
     set: ParameterSet,
     f: &[Digit],
     fp: &[Digit],
+    f_fp: &mut [Digit],
     work: &mut [u16],
 ) -> bool
     requires digits { (length f.now ≡ set.n) × (length fp.now ≡ set.n) }
     requires last { Ternary set.n (coefficients fp.now) }
-    requires room { 7040 ≤ length work.old }
+    requires room { (length f_fp.old ≡ set.n) × (7040 ≤ length work.old) }
     ensures answer { Tells result (InverseMod 3 set.n (coefficients f.now) (coefficients fp.now)) }
     ensures count { U.rows unit.new ≡ raised set.n (U.rows unit.old) }
 {
-    let mut room = [Digit::ZERO; LONGEST];
-    let f_fp = &mut room[..set.n];
     product_modulo_3(unit, set, f, fp, work, f_fp);
     is_one(f_fp)
 }
@@ -52,16 +51,15 @@ fn has_key_equation<U: RowUnit>(
     set: ParameterSet,
     h: &[u16],
     f: &[Digit],
+    g: &mut [Digit],
     work: &mut [u16],
 ) -> bool
     requires polynomials { (length h.now ≡ set.n) × (length f.now ≡ set.n) }
     requires balanced { Balanced (2 ^ set.width) set.n (integers_of h.now) }
-    requires room { 7040 ≤ length work.old }
+    requires room { (length g.old ≡ set.n) × (5632 ≤ length work.old) }
     ensures answer { Tells result (Ternary+ set.n (candidate (2 ^ set.width) 43691 (times set.n (integers_of h.now) (coefficients f.now)))) }
     ensures count { U.rows unit.new ≡ raised set.n (U.rows unit.old) }
 {
-    let mut g_room = [Digit::ZERO; LONGEST];
-    let g = &mut g_room[..set.n];
     let (hf_room, rest) = work.split_at_mut(LONGEST);
     let hf = &mut hf_room[..set.n];
     times_digits(unit, set, h, f, rest, hf);
@@ -75,15 +73,14 @@ fn is_inverse_modulo_q<U: RowUnit>(
     set: ParameterSet,
     h: &[u16],
     hq: &[u16],
+    digits: &mut [Digit],
     work: &mut [u16],
 ) -> bool
     requires words { (length h.now ≡ set.n) × (length hq.now ≡ set.n) }
-    requires room { 7040 ≤ length work.old }
+    requires room { (length digits.old ≡ set.n) × (5632 ≤ length work.old) }
     ensures answer { Tells result (InverseMod (2 ^ set.width) set.n (integers_of h.now) (integers_of hq.now)) }
     ensures count { U.rows unit.new ≡ raised set.n (U.rows unit.old) }
 {
-    let mut digits_room = [Digit::ZERO; LONGEST];
-    let digits = &mut digits_room[..set.n];
     let (product_room, rest) = work.split_at_mut(2 * LONGEST);
     let h_hq = &mut product_room[..set.n];
     product(unit, set, h, hq, rest, h_hq);
@@ -101,13 +98,13 @@ fn test_parts<U: RowUnit>(unit: &mut U, set: ParameterSet, parts: Parts<'_>) -> 
     let n = set.n;
     let mut f_room = [Digit::ZERO; LONGEST];
     let mut fp_room = [Digit::ZERO; LONGEST];
+    let mut digits_room = [Digit::ZERO; LONGEST];
     let mut h_room = [0u16; LONGEST];
-    let mut hq_room = [0u16; LONGEST];
     let mut work = Work::new();
     let f = &mut f_room[..n];
     let fp = &mut fp_room[..n];
+    let digits = &mut digits_room[..n];
     let h = &mut h_room[..n];
-    let hq = &mut hq_room[..n];
     let width = set.bits();
     // Each part is read where it is first needed, so that a card that is refused early costs little.
     read_ternary(parts.f.bytes, f);
@@ -115,15 +112,17 @@ fn test_parts<U: RowUnit>(unit: &mut U, set: ParameterSet, parts: Parts<'_>) -> 
         return Err(Refusal::NegativeCorrelation);
     }
     read_ternary(parts.fp.bytes, fp);
-    if !is_inverse_modulo_3(unit, set, f, fp, &mut work.words) {
+    if !is_inverse_modulo_3(unit, set, f, fp, digits, &mut work.words) {
         return Err(Refusal::FpNotInverse);
     }
     read_balanced(width, parts.h.bytes, h);
-    if !has_key_equation(unit, set, h, f, &mut work.words) {
+    if !has_key_equation(unit, set, h, f, digits, &mut work.words) {
         return Err(Refusal::NoKeyEquation);
     }
+    let (hq_room, rest) = work.words.split_at_mut(LONGEST);
+    let hq = &mut hq_room[..n];
     read_padded(width, parts.hq.bytes, hq);
-    if !is_inverse_modulo_q(unit, set, h, hq, &mut work.words) {
+    if !is_inverse_modulo_q(unit, set, h, hq, digits, rest) {
         return Err(Refusal::HqNotInverse);
     }
     Ok(())

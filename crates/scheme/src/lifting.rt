@@ -8,7 +8,6 @@ ghost use Rattle.arithmetic.specs.Products.{integers_of};
 ghost use Rattle.scheme.specs.Sealing.{lift_of};
 
 use crate::coefficients::signed_words;
-use crate::polynomial::LONGEST;
 use crate::product::phi1_times;
 use crate::set::ParameterSet;
 use arithmetic::{Digit, Ring};
@@ -50,14 +49,18 @@ fn lifting_digits(set: ParameterSet, m: &[Digit], s: &mut [Digit])
     }
 }
 
-// Writes Lift(m), modulo 65536.
-pub(crate) fn lift(set: ParameterSet, m: &[Digit], work: &mut [u16], out: &mut [u16])
+// Writes Lift(m), modulo 65536. The lists s and `work` are room to work in.
+pub(crate) fn lift(
+    set: ParameterSet,
+    m: &[Digit],
+    s: &mut [Digit],
+    work: &mut [u16],
+    out: &mut [u16],
+)
     requires polynomials { (length m.now ≡ set.n) × (length out.old ≡ set.n) }
-    requires room { 1408 ≤ length work.old }
+    requires room { (length s.old ≡ set.n) × (1408 ≤ length work.old) }
     ensures { SameMod 65536 set.n (integers_of out.new) (lift_of set.n (coefficients m.now)) }
 {
-    let mut s_room = [Digit::ZERO; LONGEST];
-    let s = &mut s_room[..set.n];
     let words = &mut work[..set.n];
     lifting_digits(set, m, s);
     signed_words(s, words);

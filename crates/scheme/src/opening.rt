@@ -28,24 +28,24 @@ use crate::ternary::all_hold_digits;
 use crate::ternary_polynomial::{read_ternary, write_pair};
 use arithmetic::{Digit, RowUnit};
 
-// m' of a sealed polynomial c: a is c f, centred modulo 2^width, and m' is a fp, reduced modulo 3 and 1 + x + .. + x^(n - 1).
+// m' of a sealed polynomial c: a is c f, centred modulo 2^width, and m' is a fp, reduced modulo 3 and 1 + x + .. + x^(n - 1). The lists a and
+// `work` are room to work in.
 fn find_m<U: RowUnit>(
     unit: &mut U,
     set: ParameterSet,
     c: &[u16],
     f: &[Digit],
     fp: &[Digit],
+    a: &mut [Digit],
     work: &mut [u16],
     m: &mut [Digit],
 )
     requires polynomials { (length c.now ≡ set.n) × ((length f.now ≡ set.n) × ((length fp.now ≡ set.n) × (length m.old ≡ set.n))) }
     requires last { Ternary set.n (coefficients fp.now) }
-    requires room { 7040 ≤ length work.old }
+    requires room { (length a.old ≡ set.n) × (7040 ≤ length work.old) }
     ensures message { Agree integers set.n (coefficients m.new) (opened_m set.n (coefficients fp.now) (opened_a set.n (2 ^ set.width) (coefficients f.now) (integers_of c.now))) }
     ensures count { U.rows unit.new ≡ raised (2 * set.n) (U.rows unit.old) }
 {
-    let mut a_room = [Digit::ZERO; LONGEST];
-    let a = &mut a_room[..set.n];
     let (cf_room, rest) = work.split_at_mut(LONGEST);
     let cf = &mut cf_room[..set.n];
     times_digits(unit, set, c, f, rest, cf);
@@ -54,7 +54,7 @@ fn find_m<U: RowUnit>(
 }
 
 // r' of a sealed polynomial c and its m': b is c - Lift(m'), and r' is b hq, reduced modulo 2^width and 1 + x + .. + x^(n - 1) and
-// centred, where that has digits alone. c becomes b.
+// centred, where that has digits alone. c becomes b; r is room for the digits of the lift until r' is read.
 fn find_r<U: RowUnit>(
     unit: &mut U,
     set: ParameterSet,
@@ -66,7 +66,7 @@ fn find_r<U: RowUnit>(
 ) -> Result<(), Refusal>
     requires words { (length c.old ≡ set.n) × (length hq.now ≡ set.n) }
     requires digits { (length m.now ≡ set.n) × (length r.old ≡ set.n) }
-    requires room { 7040 ≤ length work.old }
+    requires room { 5632 ≤ length work.old }
     ensures factor { let u = opened_r set.n (2 ^ set.width) (integers_of hq.now) (integers_of c.old) (lifting set.n (coefficients m.now)) in MatchResult result
         (λ _. Ternary set.n u × Agree integers set.n (coefficients r.new) u)
         (λ e. (Ternary set.n u → ⊥) × (e ≡ NoPair)) }
@@ -76,7 +76,7 @@ fn find_r<U: RowUnit>(
     let (lift_room, rest) = rest.split_at_mut(LONGEST);
     // Lift(m') first, and then the product in its place.
     let found = &mut room[..set.n];
-    lift(set, m, lift_room, found);
+    lift(set, m, r, lift_room, found);
     subtract_words(c, found);
     product(unit, set, c, hq, rest, found);
     read_reduced(set, found, r).ok_or(Refusal::NoPair)
@@ -103,21 +103,22 @@ fn open_parts<U: RowUnit>(
     let mut m_room = [Digit::ZERO; LONGEST];
     let mut r_room = [Digit::ZERO; LONGEST];
     let mut c_room = [0u16; LONGEST];
-    let mut hq_room = [0u16; LONGEST];
     let mut work = Work::new();
     let f = &mut f_room[..n];
     let fp = &mut fp_room[..n];
     let m = &mut m_room[..n];
     let r = &mut r_room[..n];
     let c = &mut c_room[..n];
-    let hq = &mut hq_room[..n];
     let width = set.bits();
     read_ternary(parts.f.bytes, f);
     read_ternary(parts.fp.bytes, fp);
     read_balanced(width, sealed, c);
+    // The list of r' is room for a until then, and the room for products has one for hq.
+    find_m(unit, set, c, f, fp, r, &mut work.words, m);
+    let (hq_room, rest) = work.words.split_at_mut(LONGEST);
+    let hq = &mut hq_room[..n];
     read_padded(width, parts.hq.bytes, hq);
-    find_m(unit, set, c, f, fp, &mut work.words, m);
-    find_r(unit, set, c, m, hq, &mut work.words, r)?;
+    find_r(unit, set, c, m, hq, rest, r)?;
     write_pair(set, r, m, pair);
     Ok(())
 }

@@ -35,11 +35,12 @@ fn encrypt<U: RowUnit>(
     ensures ciphertext { SameMod 65536 set.n (integers_of c.new) (encrypted set.n (integers_of h.now) (coefficients r.now) (coefficients m.now)) }
     ensures count { U.rows unit.new ≡ raised set.n (U.rows unit.old) }
 {
+    let mut s_room = [Digit::ZERO; LONGEST];
     let mut lift_room = [0u16; LONGEST];
     let mut lifted_room = [0u16; LONGEST];
     let lifted = &mut lifted_room[..set.n];
     digits_times(unit, set, r, h, c);
-    lift(set, m, &mut lift_room, lifted);
+    lift(set, m, &mut s_room[..set.n], &mut lift_room, lifted);
     add_words(c, lifted);
 }
 

@@ -1,6 +1,5 @@
 use Rattle.std.proofs.Common.{◌≡◌, length, take, sym, ◌∙◌, arith}
 use Rattle.std.proofs.lemmas.List.{length-take-le}
-use Rattle.arithmetic.proofs.Rooms.{in_room}
 use Rattle.scheme.proofs.Working.{g_refused, g_told}
 use Rattle.scheme.proofs.key_test.has_key_equation.Goals as goal
 
@@ -11,7 +10,7 @@ returns-then-is_some-clause-answer g c =
     let long = c.times_digits.auto.out ∙ front in
     g_told set.n set.width c.args.h.now c.times_digits.new.out c.divide_by_3_phi1.new.d c.args.f.now c.read_signs.new.out set.length.0 set.narrow c.requires.balanced
     long (c.divide_by_3_phi1.auto.d ∙ long) c.times_digits.ensures.product c.divide_by_3_phi1.ensures
-    c.read_signs.result c.correlates.result (sym c.is_some.ensures ∙ c.if-is_some.true) c.read_signs.ensures (c.read_signs.auto.out ∙ in_room _ set.length.1) c.correlates.ensures
+    c.read_signs.result c.correlates.result (sym c.is_some.ensures ∙ c.if-is_some.true) c.read_signs.ensures (c.read_signs.auto.out ∙ c.requires.room.0) c.correlates.ensures
 
 pub returns-else-is_some-clause-answer : goal.returns-else-is_some-clause-answer
 returns-else-is_some-clause-answer g c =

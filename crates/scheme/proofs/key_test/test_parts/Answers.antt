@@ -1,4 +1,5 @@
-use Rattle.std.proofs.Common.{ℕ, ◌-◌, ◌^◌, refl, ap, ◌∙◌, subst}
+use Rattle.std.proofs.Common.{◌≡◌, ℕ, ◌-◌, ◌^◌, length, take, refl, ap, ◌∙◌, subst, arith}
+use Rattle.std.proofs.lemmas.List.{length-take-le}
 use Rattle.algebra.specs.Polynomials.{Balanced}
 use Rattle.algebra.specs.Ternary.{Ternary}
 use Rattle.arithmetic.specs.Digits.{coefficients}
@@ -61,19 +62,21 @@ returns-then-not-has_key_equation g c =
 pub returns-then-not-is_inverse_modulo_q : goal.returns-then-not-is_inverse_modulo_q
 returns-then-not-is_inverse_modulo_q g c =
     let set = c.args.set in
+    let front : length (take set.n c.split_at_mut-hq_room.result.0.now) ≡ set.n = length-take-le set.n _ (omega (arith, set.length)) in
     let p = c.args.parts in
     let few = set.length.1 in
     let table = hq_fails set.n set.width set.length.0 (wide set) p.f.bytes.now p.fp.bytes.now p.h.bytes.now p.hq.bytes.now c.read_ternary.new.out c.read_ternary-2.new.out c.read_balanced.new.out c.read_padded.new.out
-    (in_room _ few) (in_room _ few) (in_room _ few) (in_room _ few) c.read_ternary.ensures.digits c.read_ternary-2.ensures.digits (rw c.bits-width.ensures at c.read_balanced.ensures.words) (rw c.bits-width.ensures at c.read_padded.ensures.words)
+    (in_room _ few) (in_room _ few) (in_room _ few) front c.read_ternary.ensures.digits c.read_ternary-2.ensures.digits (rw c.bits-width.ensures at c.read_balanced.ensures.words) (rw c.bits-width.ensures at c.read_padded.ensures.words)
     (c.read_ternary.auto.out ∙ in_room _ few) c.correlates.ensures c.if-not-correlates.false c.is_inverse_modulo_3.ensures.answer c.if-not-is_inverse_modulo_3.false c.has_key_equation.ensures.answer c.if-not-has_key_equation.false c.is_inverse_modulo_q.ensures.answer c.if-not-is_inverse_modulo_q.true in
     record { answer = table.answer_is; count = three_rows set.n (g.U.RowUnit.rows c.args.unit.now) refl refl refl c.is_inverse_modulo_3.ensures.count c.has_key_equation.ensures.count c.is_inverse_modulo_q.ensures.count ∙ ap (λ r. raised r (g.U.RowUnit.rows c.args.unit.now)) table.rows_are }
 
 pub returns : goal.returns
 returns g c =
     let set = c.args.set in
+    let front : length (take set.n c.split_at_mut-hq_room.result.0.now) ≡ set.n = length-take-le set.n _ (omega (arith, set.length)) in
     let p = c.args.parts in
     let few = set.length.1 in
     let table = passes set.n set.width set.length.0 (wide set) p.f.bytes.now p.fp.bytes.now p.h.bytes.now p.hq.bytes.now c.read_ternary.new.out c.read_ternary-2.new.out c.read_balanced.new.out c.read_padded.new.out
-    (in_room _ few) (in_room _ few) (in_room _ few) (in_room _ few) c.read_ternary.ensures.digits c.read_ternary-2.ensures.digits (rw c.bits-width.ensures at c.read_balanced.ensures.words) (rw c.bits-width.ensures at c.read_padded.ensures.words)
+    (in_room _ few) (in_room _ few) (in_room _ few) front c.read_ternary.ensures.digits c.read_ternary-2.ensures.digits (rw c.bits-width.ensures at c.read_balanced.ensures.words) (rw c.bits-width.ensures at c.read_padded.ensures.words)
     (c.read_ternary.auto.out ∙ in_room _ few) c.correlates.ensures c.if-not-correlates.false c.is_inverse_modulo_3.ensures.answer c.if-not-is_inverse_modulo_3.false c.has_key_equation.ensures.answer c.if-not-has_key_equation.false c.is_inverse_modulo_q.ensures.answer c.if-not-is_inverse_modulo_q.false in
     record { answer = table.answer_is; count = three_rows set.n (g.U.RowUnit.rows c.args.unit.now) refl refl refl c.is_inverse_modulo_3.ensures.count c.has_key_equation.ensures.count c.is_inverse_modulo_q.ensures.count ∙ ap (λ r. raised r (g.U.RowUnit.rows c.args.unit.now)) table.rows_are }

@@ -12,11 +12,11 @@ ghost use Rattle.scheme.specs.WordPolynomials.{word_record};
 use crate::coefficients::signed_words;
 use crate::draws::{Coins, draw_settled};
 use crate::polynomial::{LONGEST, write_all_but_last};
-use crate::product::{digits_times, phi1_times};
+use crate::product::{Work, digits_times, phi1_times};
 use crate::refusal::Refusal;
 use crate::set::ParameterSet;
 use crate::ternary_polynomial::write_pair;
-use arithmetic::{Digit, Room, RowUnit, inverse_mod_phi, inverse_of_words};
+use arithmetic::{Digit, RowUnit, inverse_mod_phi, inverse_of_words};
 
 // Three times each word, modulo q.
 fn triple(set: ParameterSet, words: &[u16], out: &mut [u16])
@@ -84,14 +84,14 @@ fn make_public<U: RowUnit>(
     ensures count { U.rows unit.old ≤ U.rows unit.new }
 {
     let n = set.n;
-    let mut fq_room = [0u16; LONGEST];
-    let mut product_room = Room::new();
-    let mut turned_room = [0u16; LONGEST];
+    let mut work = Work::new();
+    let (product_room, rest) = work.words.split_at_mut(LONGEST);
+    let (rest, fq_room) = rest.split_at_mut(3 * LONGEST);
     let fq = &mut fq_room[..n];
-    let g_fq = &mut product_room.words[..n];
-    let turned = &mut turned_room[..n];
     invert_modulo_q(unit, set, f, fq)?;
-    digits_times(unit, set, g, fq, g_fq);
+    let g_fq = &mut product_room[..n];
+    digits_times(unit, set, g, fq, rest, g_fq);
+    let turned = &mut rest[..n];
     phi1_times(set, g_fq, turned);
     triple(set, turned, h);
     Ok(())

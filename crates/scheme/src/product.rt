@@ -71,24 +71,24 @@ pub(crate) fn times_digits<U: RowUnit>(
     product(unit, set, c, words, rest, out);
 }
 
-// The product of digits r and words h, modulo 65536, in a room of its own: the calls that take this product take no other.
+// The product of digits r and words h, modulo 65536.
 pub(crate) fn digits_times<U: RowUnit>(
     unit: &mut U,
     set: ParameterSet,
     r: &[Digit],
     h: &[u16],
+    work: &mut [u16],
     out: &mut [u16],
 )
     requires factors { (length r.now ≡ set.n) × (length h.now ≡ set.n) }
-    requires room { length out.old ≡ set.n }
+    requires room { (4224 ≤ length work.old) × (length out.old ≡ set.n) }
     ensures product { SameMod 65536 set.n (integers_of out.new) (times set.n (coefficients r.now) (integers_of h.now)) }
     ensures count { U.rows unit.new ≡ raised set.n (U.rows unit.old) }
 {
-    let mut words_room = [0u16; LONGEST];
-    let mut twice = [0u16; 2 * LONGEST];
+    let (words_room, rest) = work.split_at_mut(LONGEST);
     let words = &mut words_room[..set.n];
     signed_words(r, words);
-    product(unit, set, words, h, &mut twice, out);
+    product(unit, set, words, h, rest, out);
 }
 
 // The product of a and b, reduced modulo 3 and 1 + x + .. + x^(n - 1). The last digit of b is 0, so that no sum of codes wraps.

@@ -1,5 +1,5 @@
 // Seal: c = r h + Lift(m) modulo 2^w.
-ghost use Rattle.std.specs.Prelude.{◌≡◌, length};
+ghost use Rattle.std.specs.Prelude.{◌≡◌, ◌≤◌, length};
 ghost use Rattle.algebra.specs.Polynomials.{SameMod};
 ghost use Rattle.arithmetic.specs.Digits.{coefficients};
 ghost use Rattle.arithmetic.specs.Products.{integers_of};
@@ -15,11 +15,11 @@ use crate::card::split_card;
 use crate::draws::{Coins, draw_both};
 use crate::lifting::lift;
 use crate::polynomial::{LONGEST, read_balanced, write_all_but_last};
-use crate::product::digits_times;
+use crate::product::{Work, digits_times};
 use crate::refusal::Refusal;
 use crate::set::ParameterSet;
 use crate::sums::add_words;
-use arithmetic::{Digit, Room, RowUnit};
+use arithmetic::{Digit, RowUnit};
 
 // Writes r h + Lift(m) to c, modulo 65536.
 fn encrypt<U: RowUnit>(
@@ -28,19 +28,20 @@ fn encrypt<U: RowUnit>(
     r: &[Digit],
     m: &[Digit],
     h: &[u16],
+    work: &mut [u16],
     c: &mut [u16],
 )
     requires digits { (length r.now ≡ set.n) × (length m.now ≡ set.n) }
     requires words { (length h.now ≡ set.n) × (length c.old ≡ set.n) }
+    requires room { 5632 ≤ length work.old }
     ensures ciphertext { SameMod 65536 set.n (integers_of c.new) (encrypted set.n (integers_of h.now) (coefficients r.now) (coefficients m.now)) }
     ensures count { U.rows unit.new ≡ raised set.n (U.rows unit.old) }
 {
     let mut s_room = [Digit::ZERO; LONGEST];
-    let mut lift_room = [0u16; LONGEST];
-    let mut lifted_room = [0u16; LONGEST];
-    let lifted = &mut lifted_room[..set.n];
-    digits_times(unit, set, r, h, c);
-    lift(set, m, &mut s_room[..set.n], &mut lift_room, lifted);
+    digits_times(unit, set, r, h, work, c);
+    let (lift_room, rest) = work.split_at_mut(LONGEST);
+    let lifted = &mut rest[..set.n];
+    lift(set, m, &mut s_room[..set.n], lift_room, lifted);
     add_words(c, lifted);
 }
 
@@ -55,15 +56,16 @@ fn seal_pair<U: RowUnit>(unit: &mut U, h: &[u8], coins: Coins<'_>, out: &mut [u8
     let mut r_room = [Digit::ZERO; LONGEST];
     let mut m_room = [Digit::ZERO; LONGEST];
     let mut key_room = [0u16; LONGEST];
-    let mut c_room = Room::new();
+    let mut work = Work::new();
     let r = &mut r_room[..n];
     let m = &mut m_room[..n];
     let key = &mut key_room[..n];
-    let c = &mut c_room.words[..n];
+    let (c_room, rest) = work.words.split_at_mut(LONGEST);
+    let c = &mut c_room[..n];
     let width = set.bits();
     draw_both(coins, r, m);
     read_balanced(width, h, key);
-    encrypt(unit, set, r, m, key, c);
+    encrypt(unit, set, r, m, key, rest, c);
     write_all_but_last(width, c, out);
 }
 
